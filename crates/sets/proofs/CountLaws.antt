@@ -8,20 +8,13 @@ use native.Mathlib.Numerals.{add-one}
 use native.Mathlib.Omega.{arith}
 use borrow.Author.Tests.{not-false}
 use Rattle.sets.specs.Counting.{bit, count, Within, Covers, Outside}
+use Rattle.sets.proofs.Tests.{and-left, and-right}
 
 pub up : {i k : ℕ} → i < k → i < suc k
 up {k = k} l = lt-of-lt-of-le l (le-suc k)
 
 pub below-ne : {j k : ℕ} → j < k → j ≢ k
 below-ne {k = k} l e = lt-irrefl k (subst (λ (n : ℕ). n < k) e l)
-
-both-left : (a b : Bool) → (a && b) ≡ true → a ≡ true
-both-left true b h = refl
-both-left false b h = h
-
-both-right : (a b : Bool) → (a && b) ≡ true → b ≡ true
-both-right true b h = h
-both-right false b h = cc
 
 bit-le : (a : Bool) → bit a ≤ 1
 bit-le true = le-refl 1
@@ -156,4 +149,4 @@ pub count-share-outside : (f g b : ℕ → Bool) (k : ℕ) → k + count b k < c
     → (i : ℕ) × (i < k) × (f i ≡ true) × (g i ≡ true) × (b i ≡ false)
 count-share-outside f g b k h =
     let t = count-more (λ i. f i && g i) b k (omega (arith, count-or-and f g k, count-le (λ i. f i || g i) k)) in
-    (t .0, t .1, both-left (f (t .0)) (g (t .0)) (t .2), both-right (f (t .0)) (g (t .0)) (t .2), t .3)
+    (t .0, t .1, and-left (f (t .0)) (g (t .0)) (t .2), and-right (f (t .0)) (g (t .0)) (t .2), t .3)

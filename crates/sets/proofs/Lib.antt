@@ -1,3 +1,4 @@
+pub mod Tests
 pub mod CountLaws
 pub mod MemberLaws
 pub mod SizeLaws
