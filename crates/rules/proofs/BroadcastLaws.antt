@@ -1,0 +1,173 @@
+-- Laws of `broadcast` and `broadcasts`: one destination more, one entry more, which notes they have, and how many.
+-- Nobody else unfolds them. Assumes nothing.
+use mathlib.Core.Path.{_≡_, refl, sym, ap, subst, _∙_}
+use mathlib.Core.Bool.{Bool, true, false, cond}
+use mathlib.Core.Logic.{_⊎_, ⊎-elim}
+use mathlib.Core.List.{List, [], _∷_, _++_, append-nil}
+use Prim.Native.Nat.{ℕ, zero, suc, _+_, _*_, _≤_, _<_}
+use native.Mathlib.Nat.{le-of-suc-le-suc, not-suc-le-zero, eq-or-lt-of-le}
+use native.Mathlib.Numerals.{add-one}
+use native.Mathlib.Omega.{arith}
+use lib.ListN.{length, length-append}
+use borrow.Author.Tests.{eq-eqb, eqb-true}
+use Rattle.sets.specs.Counting.{bit, count}
+use Rattle.sets.proofs.CountLaws.{count-zero, count-step}
+use Rattle.sets.proofs.Tests.{or-left, or-right, or-cases, clash}
+use Rattle.rules.specs.Rules.{noteOf, waits, post, postAll, broadcast, broadcasts}
+use Rattle.rules.proofs.WaitLaws.{waits-none, waits-one, waits-append, Each}
+use Rattle.rules.proofs.PostLaws.{postAll-append, postAll-last, postAll-longer}
+
+-- ---- one entry, to destinations 0 to n - 1
+
+module _ (t i e : ℕ) where
+  pub broadcast-none : broadcast t i e 0 ≡ []
+  unfolding broadcast
+  broadcast-none = refl
+
+  pub broadcast-more : (j : ℕ) → broadcast t i e (j + 1) ≡ broadcast t i e j ++ noteOf t i j e ∷ []
+  unfolding broadcast
+  broadcast-more j = rw add-one
+
+  pub length-broadcast : (n : ℕ) → length (broadcast t i e n) ≡ n
+  unfolding broadcast
+  length-broadcast zero = refl
+  length-broadcast (suc n) = length-append (broadcast t i e n) (noteOf t i n e ∷ []) ∙ rw (length-broadcast n) (omega arith)
+
+  -- its notes are those to the desks below n
+  pub broadcast-waits : (n j : ℕ) → j < n → waits (broadcast t i e n) (noteOf t i j e) ≡ true
+  unfolding broadcast
+  broadcast-waits zero j h = absurd (not-suc-le-zero h)
+  broadcast-waits (suc n) j h =
+      let before = waits (broadcast t i e n) (noteOf t i j e) in
+      let last = waits (noteOf t i n e ∷ []) (noteOf t i j e) in
+      waits-append (broadcast t i e n) (noteOf t i n e ∷ []) (noteOf t i j e)
+      ∙ ⊎-elim
+      (λ p. or-right before last (waits-one (noteOf t i n e) (noteOf t i j e) ∙ eq-eqb (noteOf t i n e) (noteOf t i j e) (ap (λ (k : ℕ). noteOf t i k e) (sym p))))
+      (λ l. or-left before last (broadcast-waits n j l))
+      (eq-or-lt-of-le (le-of-suc-le-suc h))
+
+  pub broadcast-only : (n x : ℕ) → waits (broadcast t i e n) x ≡ true → (j : ℕ) × (j < n) × (x ≡ noteOf t i j e)
+  unfolding broadcast
+  broadcast-only zero x w = clash (waits [] x) w (waits-none x)
+  broadcast-only (suc n) x w =
+      ⊎-elim
+      (λ p. up (broadcast-only n x p))
+      (λ p. (n, omega arith, sym (eqb-true (noteOf t i n e) x (sym (waits-one (noteOf t i n e) x) ∙ p))))
+      (or-cases (waits (broadcast t i e n) x) (waits (noteOf t i n e ∷ []) x) (sym (waits-append (broadcast t i e n) (noteOf t i n e ∷ []) x) ∙ w))
+    where
+      up : (j : ℕ) × (j < n) × (x ≡ noteOf t i j e) → (j : ℕ) × (j < suc n) × (x ≡ noteOf t i j e)
+      up (j, l, p) = (j, omega arith, p)
+
+  pub each-broadcast : (P : ℕ → Type 0) (n : ℕ) → ((j : ℕ) → j < n → P (noteOf t i j e)) → Each P (broadcast t i e n)
+  each-broadcast P n h x w = of (broadcast-only n x w)
+    where
+      of : (j : ℕ) × (j < n) × (x ≡ noteOf t i j e) → P x
+      of (j, l, p) = subst P (sym p) (h j l)
+
+  -- posting it
+  module _ (ns : List ℕ) where
+    pub post-broadcast-none : postAll ns (broadcast t i e 0) ≡ ns
+    unfolding broadcast postAll
+    post-broadcast-none = refl
+
+    pub post-broadcast-more : (j : ℕ) → postAll ns (broadcast t i e (j + 1)) ≡ post (postAll ns (broadcast t i e j)) (noteOf t i j e)
+    post-broadcast-more j = rw (broadcast-more j) (postAll-last ns (broadcast t i e j) (noteOf t i j e))
+
+    pub post-broadcast-longer : (j n : ℕ) → j ≤ n → length (postAll ns (broadcast t i e j)) ≤ length (postAll ns (broadcast t i e n))
+    unfolding broadcast
+    post-broadcast-longer j n h = postAll-longer ns (broadcast t i e) (λ k. noteOf t i k e ∷ []) (λ k. refl) j n h
+
+-- ---- the entries below u that pass a test, in rising order
+
+module _ (test : ℕ → Bool) (t i n : ℕ) where
+  pub broadcasts-none : broadcasts test t i n 0 ≡ []
+  unfolding broadcasts
+  broadcasts-none = refl
+
+  pub broadcasts-more : (e : ℕ) → broadcasts test t i n (e + 1) ≡ broadcasts test t i n e ++ cond (test e) (broadcast t i e n) []
+  unfolding broadcasts
+  broadcasts-more e = rw add-one
+
+  pub broadcasts-due : (e : ℕ) → test e ≡ true → broadcasts test t i n (e + 1) ≡ broadcasts test t i n e ++ broadcast t i e n
+  broadcasts-due e h = broadcasts-more e ∙ rw h
+
+  pub broadcasts-not : (e : ℕ) → test e ≡ false → broadcasts test t i n (e + 1) ≡ broadcasts test t i n e
+  broadcasts-not e h = broadcasts-more e ∙ rw h (append-nil (broadcasts test t i n e))
+
+  pub length-broadcasts : (u : ℕ) → length (broadcasts test t i n u) ≡ count test u * n
+  unfolding broadcasts
+  length-broadcasts zero = rw (count-zero test) (omega arith)
+  length-broadcasts (suc e) =
+      length-append (broadcasts test t i n e) (cond (test e) (broadcast t i e n) [])
+      ∙ rw (length-broadcasts e, ← add-one e, count-step test e) (by (test e))
+    where
+      by : (b : Bool) → count test e * n + length (cond b (broadcast t i e n) []) ≡ (bit b + count test e) * n
+      by true = rw (length-broadcast t i e n) (omega arith)
+      by false = omega arith
+
+  -- its notes are those of the due entries below u to the desks below n
+  pub broadcasts-waits : (u e j : ℕ) → e < u → test e ≡ true → j < n → waits (broadcasts test t i n u) (noteOf t i j e) ≡ true
+  unfolding broadcasts
+  broadcasts-waits zero e j h d l = absurd (not-suc-le-zero h)
+  broadcasts-waits (suc u) e j h d l =
+      let before = waits (broadcasts test t i n u) (noteOf t i j e) in
+      let last = waits (cond (test u) (broadcast t i u n) []) (noteOf t i j e) in
+      waits-append (broadcasts test t i n u) (cond (test u) (broadcast t i u n) []) (noteOf t i j e)
+      ∙ ⊎-elim
+      (λ p. or-right before last (rw (← p, d) (broadcast-waits t i e n j l)))
+      (λ lt. or-left before last (broadcasts-waits u e j lt d l))
+      (eq-or-lt-of-le (le-of-suc-le-suc h))
+
+  -- a note of the entries below u: its entry, its destination, and what is known of them
+  pub record Of (u x : ℕ) : Type 0 where
+    pub ofEntry : ℕ
+    pub ofDesk : ℕ
+    pub entryBelow : ofEntry < u
+    pub deskBelow : ofDesk < n
+    pub isDue : test ofEntry ≡ true
+    pub isNote : x ≡ noteOf t i ofDesk ofEntry
+
+  pub broadcasts-only : (u x : ℕ) → waits (broadcasts test t i n u) x ≡ true → Of u x
+  unfolding broadcasts
+  broadcasts-only zero x w = clash (waits [] x) w (waits-none x)
+  broadcasts-only (suc u) x w =
+      ⊎-elim
+      (λ p. up (broadcasts-only u x p))
+      (last (test u) refl)
+      (or-cases
+      (waits (broadcasts test t i n u) x)
+      (waits (cond (test u) (broadcast t i u n) []) x)
+      (sym (waits-append (broadcasts test t i n u) (cond (test u) (broadcast t i u n) []) x) ∙ w))
+    where
+      up : Of u x → Of (suc u) x
+      up o = record { ofEntry = o .ofEntry; ofDesk = o .ofDesk; entryBelow = omega (arith, o .entryBelow); deskBelow = o .deskBelow; isDue = o .isDue; isNote = o .isNote }
+
+      here : test u ≡ true → (j : ℕ) × (j < n) × (x ≡ noteOf t i j u) → Of (suc u) x
+      here d (j, l, p) = record { ofEntry = u; ofDesk = j; entryBelow = omega arith; deskBelow = l; isDue = d; isNote = p }
+
+      last : (b : Bool) → test u ≡ b → waits (cond b (broadcast t i u n) []) x ≡ true → Of (suc u) x
+      last true d v = here d (broadcast-only t i u n x v)
+      last false d v = clash (waits [] x) v (waits-none x)
+
+  pub each-broadcasts : (P : ℕ → Type 0) (u : ℕ) → ((e j : ℕ) → e < u → j < n → test e ≡ true → P (noteOf t i j e)) → Each P (broadcasts test t i n u)
+  each-broadcasts P u h x w = of (broadcasts-only u x w)
+    where
+      of : Of u x → P x
+      of o = subst P (sym (o .isNote)) (h (o .ofEntry) (o .ofDesk) (o .entryBelow) (o .deskBelow) (o .isDue))
+
+  -- posting them
+  module _ (ns : List ℕ) where
+    pub post-broadcasts-none : postAll ns (broadcasts test t i n 0) ≡ ns
+    unfolding broadcasts postAll
+    post-broadcasts-none = refl
+
+    pub post-broadcasts-due : (e : ℕ) → test e ≡ true
+        → postAll ns (broadcasts test t i n (e + 1)) ≡ postAll (postAll ns (broadcasts test t i n e)) (broadcast t i e n)
+    post-broadcasts-due e h = rw (broadcasts-due e h) (postAll-append ns (broadcasts test t i n e) (broadcast t i e n))
+
+    pub post-broadcasts-not : (e : ℕ) → test e ≡ false → postAll ns (broadcasts test t i n (e + 1)) ≡ postAll ns (broadcasts test t i n e)
+    post-broadcasts-not e h = rw (broadcasts-not e h)
+
+    pub post-broadcasts-longer : (e u : ℕ) → e ≤ u → length (postAll ns (broadcasts test t i n e)) ≤ length (postAll ns (broadcasts test t i n u))
+    unfolding broadcasts
+    post-broadcasts-longer e u h = postAll-longer ns (broadcasts test t i n) (λ k. cond (test k) (broadcast t i k n) []) (λ k. refl) e u h
