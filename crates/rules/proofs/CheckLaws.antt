@@ -50,15 +50,15 @@ no number e = eqb-false number 0 e
 
 numbered : (s : State) (m : Move) → Numbered (checks s m)
 unfolding checks
-numbered s (delay t) = (no 14 refl, (no 12 refl, (no 13 refl, tt)))
-numbered s (announce i e) = (no 4 refl, (no 5 refl, (no 11 refl, tt)))
-numbered s (passOn i) = (no 4 refl, (no 11 refl, tt))
-numbered s (accept j) = (no 4 refl, tt)
-numbered s (receive j i e) = (no 4 refl, (no 4 refl, (no 5 refl, (no 6 refl, tt))))
-numbered s (crash i) = (no 4 refl, (no 7 refl, (no 9 refl, tt)))
-numbered s (resetTimers i) = (no 4 refl, (no 8 refl, tt))
-numbered s (falseNote i j e t) = (no 4 refl, (no 4 refl, (no 5 refl, (no 8 refl, (no 10 refl, (no 11 refl, tt))))))
-numbered s unknown = (no 3 refl, tt)
+numbered s (delay t) = (no _ refl, (no _ refl, (no _ refl, tt)))
+numbered s (announce i e) = (no _ refl, (no _ refl, (no _ refl, tt)))
+numbered s (passOn i) = (no _ refl, (no _ refl, tt))
+numbered s (accept j) = (no _ refl, tt)
+numbered s (receive j i e) = (no _ refl, (no _ refl, (no _ refl, (no _ refl, tt))))
+numbered s (crash i) = (no _ refl, (no _ refl, (no _ refl, tt)))
+numbered s (resetTimers i) = (no _ refl, (no _ refl, tt))
+numbered s (falseNote i j e t) = (no _ refl, (no _ refl, (no _ refl, (no _ refl, (no _ refl, (no _ refl, tt))))))
+numbered s unknown = (no _ refl, tt)
 
 -- ---- a move
 

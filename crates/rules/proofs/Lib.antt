@@ -7,3 +7,8 @@ pub mod BroadcastLaws
 pub mod SearchLaws
 pub mod TakeOutLaws
 pub mod NoteShapes
+pub mod DeskLaws
+pub mod Effects
+pub mod DeskShapes
+pub mod Shapes
+pub mod ShapeKept

@@ -5,6 +5,7 @@ use mathlib.Core.Logic.{_⊎_, inl, inr, _≢_}
 use Prim.Native.Nat.{ℕ, zero, suc, _+_, _≤_, _<_, zero-le}
 use native.Mathlib.Nat.{le-refl, le-suc, lt-of-lt-of-le, le-of-suc-le-suc, not-suc-le-zero, eq-or-lt-of-le, lt-irrefl, zero-add, suc-add}
 use native.Mathlib.Numerals.{add-one}
+use native.Mathlib.Decide.{ℕ-discrete}
 use native.Mathlib.Omega.{arith}
 use borrow.Author.Tests.{not-false}
 use Rattle.sets.specs.Counting.{bit, count, Within, Covers, Outside}
@@ -104,6 +105,16 @@ module _ (f g : ℕ → Bool) where
   unfolding count
   count-or-and zero = refl
   count-or-and (suc k) = omega (arith, bit-both (f k) (g k), count-or-and k)
+
+  -- all but one number are in both
+  pub count-but-one : (i k : ℕ) → ((j : ℕ) → j ≢ i → f j ≡ true → g j ≡ true) → count f k ≤ suc (count g k)
+  unfolding count
+  count-but-one i zero h = zero-le
+  count-but-one i (suc k) h = go (ℕ-discrete k i) (count-but-one i k h)
+    where
+      go : Dec (k ≡ i) → count f k ≤ suc (count g k) → bit (f k) + count f k ≤ suc (bit (g k) + count g k)
+      go (yes e) ih = omega (arith, bit-le (f k), count-mono k (λ j l. h j (λ d. below-ne l (d ∙ sym e))))
+      go (no n) ih = omega (arith, bit-mono (f k) (g k) (h k n))
 
   -- one number more
   pub count-add : (i k : ℕ) → i < k → f i ≡ false → g i ≡ true → ((j : ℕ) → j ≢ i → g j ≡ f j) → count g k ≡ suc (count f k)

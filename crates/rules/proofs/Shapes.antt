@@ -1,0 +1,162 @@
+-- A floor in shape: the test as a record, the fresh floor has it, and every move keeps it. Nobody else unfolds `inShape`, `placeInShape`,
+-- `zeroDesk` and `withinLimits`. Assumes nothing.
+use mathlib.Core.Path.{_≡_, refl, sym, ap, _∙_, subst}
+use mathlib.Core.Bool.{Bool, true, false, not, cond, _&&_}
+use mathlib.Core.Logic.{_⊎_, inl, inr, ⊎-elim, _≢_}
+use mathlib.Core.List.{List, [], _∷_}
+use Prim.Native.Nat.{ℕ, _+_, _*_, _^_, _≤_, _<_, zero-le}
+use native.Mathlib.Nat.{le-trans}
+use native.Mathlib.Omega.{arith}
+use lib.Dec.{leb, ltb, eqb}
+use lib.ListN.{length, getD, set, length-replicate}
+use borrow.Author.Tests.{not-false, lt-ltb, le-ltb, le-leb, leb-true, leb-false, ltb-false, ltb-true}
+use Rattle.sets.specs.Counting.{count}
+use Rattle.sets.specs.Sets.{insert, allBelow}
+use Rattle.sets.proofs.Tests.{apart, cond-true, cond-false, le-or-lt, or-none}
+use Rattle.sets.proofs.CountLaws.{count-mono, count-but-one, count-none}
+use Rattle.sets.proofs.MemberLaws.{lt-all-below}
+use Rattle.rules.specs.Rules.{Settings, Desk, State, from1to, withinLimits, lastTick, mostNotes, freshDesk, fresh, noDesk, deskAt, sources, withDesk, withNotes, newTimeOut}
+use Rattle.rules.specs.Rules.{timed, later, mapFirst, withSent, passing, accepting, earliest, takenOut, hearing, crashed, post, postAll, broadcast, broadcasts, due, announced, passedOn, noteOf}
+use Rattle.rules.specs.Rules.{Move, delay, announce, passOn, accept, receive, crash, resetTimers, falseNote, unknown, effect, checks, next}
+use Rattle.rules.specs.Rules.{everyNote, everyBelow, notPast, timersHold, faults, noteInShape, deskInShape, zeroDesk, placeInShape, inShape}
+use Rattle.rules.proofs.CheckLaws.{Passed, below-passed, next-keeps}
+use Rattle.rules.proofs.DeskLaws.{set-change, first-change, first-past, desk-change, desk-other, below-each, each-below}
+use Rattle.rules.proofs.NoteShapes.{shape-post, shape-broadcast, shape-broadcasts, shape-takenOut, shape-later}
+use Rattle.rules.proofs.WaitLaws.{every-none}
+use Rattle.rules.proofs.TakeOutLaws.{takenOut-shorter}
+use Rattle.rules.proofs.DeskShapes.{DeskShape, desk-shape, shape-desk, timed-shape, crashed-shape, sent-shape, passing-shape, accepting-shape, hearing-shape}
+use Rattle.rules.proofs.Effects.{sending, announced-both, passingOn, passedOn-is}
+
+-- ---- the settings
+
+pub record Limits (k : Settings) : Type 0 where
+  pub desks : (1 ≤ k .n) × (k .n ≤ 16)
+  pub faulty : 3 * k .f + 1 ≤ k .n
+  pub entries : (1 ≤ k .u) × (k .u ≤ 64)
+  pub m : (1 ≤ k .m) × (k .m ≤ 65535)
+  pub p : (1 ≤ k .p) × (k .p ≤ 65535)
+  pub a : (1 ≤ k .a) × (k .a ≤ 65535)
+
+from-to : (most x : ℕ) → (leb 1 x && leb x most) ≡ true → (1 ≤ x) × (x ≤ most)
+from-to most x h =
+    let (low, (high, _)) = apart (leb 1 x ∷ leb x most ∷ []) h in
+    (leb-true 1 x low, leb-true x most high)
+
+pub limits : (k : Settings) → withinLimits k ≡ true → Limits k
+unfolding withinLimits
+limits k h =
+    let (n, (f, (u, (m, (p, (a, _)))))) =
+    apart
+    (from1to 16 (k .n)
+    ∷ leb (3 * k .f + 1) (k .n)
+    ∷ from1to 64 (k .u)
+    ∷ from1to 65535 (k .m)
+    ∷ from1to 65535 (k .p)
+    ∷ from1to 65535 (k .a)
+    ∷ []) h in
+    record {
+      desks = from-to 16 (k .n) n;
+      faulty = leb-true (3 * k .f + 1) (k .n) f;
+      entries = from-to 64 (k .u) u;
+      m = from-to 65535 (k .m) m;
+      p = from-to 65535 (k .p) p;
+      a = from-to 65535 (k .a) a;
+    }
+
+-- ---- the floor
+
+-- desk d may stand at place i
+abbrev pub PlaceShape : Settings → ℕ → Desk → Type 0
+PlaceShape k i d = cond (ltb i (k .n)) (deskInShape k d) (zeroDesk d) ≡ true
+
+pub record Shape (s : State) : Type 0 where
+  pub settings : withinLimits (s .settings) ≡ true
+  pub clock : s .clock ≤ lastTick
+  pub room : length (s .notes) ≤ mostNotes
+  pub notes : everyNote (noteInShape (s .settings) (s .clock)) (s .notes) ≡ true
+  pub desks : (i : ℕ) → i < 16 → PlaceShape (s .settings) i (deskAt s i)
+  pub few : faults s ≤ s .settings .f
+
+module _ (s : State) where
+  pub shape : inShape s ≡ true → Shape s
+  unfolding inShape placeInShape
+  shape h =
+      let (settings, (clock, (room, (notes, (desks, (few, _)))))) =
+      apart
+      (withinLimits (s .settings)
+      ∷ leb (s .clock) lastTick
+      ∷ leb (length (s .notes)) mostNotes
+      ∷ everyNote (noteInShape (s .settings) (s .clock)) (s .notes)
+      ∷ everyBelow (placeInShape s) 16
+      ∷ leb (faults s) (s .settings .f)
+      ∷ []) h in
+      record {
+        settings = settings;
+        clock = leb-true (s .clock) lastTick clock;
+        room = leb-true (length (s .notes)) mostNotes room;
+        notes = notes;
+        desks = below-each (placeInShape s) 16 desks;
+        few = leb-true (faults s) (s .settings .f) few;
+      }
+
+  pub in-shape : Shape s → inShape s ≡ true
+  unfolding inShape placeInShape
+  in-shape h =
+      rw (
+        h .settings,
+        le-leb (s .clock) lastTick (h .clock),
+        le-leb (length (s .notes)) mostNotes (h .room),
+        h .notes,
+        each-below (placeInShape s) 16 (h .desks),
+        le-leb (faults s) (s .settings .f) (h .few),
+      )
+
+-- a desk below n is in shape, and the other way
+pub desk-below : (k : Settings) (i : ℕ) (d : Desk) → i < k .n → PlaceShape k i d → DeskShape k d
+desk-below k i d l h = desk-shape k d (sym (cond-true (ltb i (k .n)) (deskInShape k d) (zeroDesk d) (lt-ltb i (k .n) l)) ∙ h)
+
+pub below-desk : (k : Settings) (i : ℕ) (d : Desk) → i < k .n → DeskShape k d → PlaceShape k i d
+below-desk k i d l h = cond-true (ltb i (k .n)) (deskInShape k d) (zeroDesk d) (lt-ltb i (k .n) l) ∙ shape-desk k d h
+
+module _ (s : State) (h : Shape s) where
+  pub shape-limits : Limits (s .settings)
+  shape-limits = limits (s .settings) (h .settings)
+
+  pub shape-desk-at : (i : ℕ) → i < s .settings .n → DeskShape (s .settings) (deskAt s i)
+  shape-desk-at i l = desk-below (s .settings) i (deskAt s i) l (h .desks i (omega (arith, shape-limits .desks)))
+
+  -- ---- one desk below n changes, and notes
+
+  pub turn : (ns : List ℕ) (i : ℕ) (d : Desk) → i < s .settings .n → DeskShape (s .settings) d
+      → (d .faulty ≡ true → deskAt s i .faulty ≡ true) ⊎ (faults s < s .settings .f)
+      → length ns ≤ mostNotes → everyNote (noteInShape (s .settings) (s .clock)) ns ≡ true
+      → Shape (withDesk (withNotes s ns) i d)
+  turn ns i d l ok bad room notes =
+      record {
+        settings = h .settings;
+        clock = h .clock;
+        room = room;
+        notes = notes;
+        desks = λ j b. set-change noDesk (λ a old new. PlaceShape (s .settings) a old → PlaceShape (s .settings) a new) (λ a x t. t) (s .desks) i d
+            (λ _. below-desk (s .settings) i d l ok) j (h .desks j b);
+        few = ⊎-elim same more bad;
+      }
+    where
+      marks : State → ℕ → Bool
+      marks z j = deskAt z j .faulty
+
+      same : (d .faulty ≡ true → deskAt s i .faulty ≡ true) → faults (withDesk s i d) ≤ s .settings .f
+      same f =
+          le-trans
+          (count-mono (marks (withDesk s i d)) (marks s) (s .settings .n) (λ j _. desk-change s i d (λ old new. new .faulty ≡ true → old .faulty ≡ true) (λ x t. t) f j))
+          (h .few)
+
+      more : faults s < s .settings .f → faults (withDesk s i d) ≤ s .settings .f
+      more spare =
+          le-trans
+          (count-but-one (marks (withDesk s i d)) (marks s) i (s .settings .n) (λ j other t. ap (λ (x : Desk). x .faulty) (sym (desk-other s i d j other)) ∙ t))
+          spare
+
+  -- notes alone change
+  pub turn-notes : (ns : List ℕ) → length ns ≤ mostNotes → everyNote (noteInShape (s .settings) (s .clock)) ns ≡ true → Shape (withNotes s ns)
+  turn-notes ns room notes = record { settings = h .settings; clock = h .clock; room = room; notes = notes; desks = h .desks; few = h .few }
