@@ -1,5 +1,4 @@
-# README.md says what each command is for. The last line that the gate prints is its verdict: make adds nothing to it.
-MAKEFLAGS += --no-print-directory
+# README.md says what each command is for. The gate's last line is its verdict, so its recipe prints nothing of its own.
 .PHONY: test check fmt
 
 test:
