@@ -1,0 +1,26 @@
+-- Laws of `firstFailing`: each return of a function that makes its checks in order is one of these. Nobody else unfolds it. Assumes nothing.
+use mathlib.Core.Path.{_≡_, refl}
+use mathlib.Core.Bool.{Bool, true, false}
+use mathlib.Core.List.{List, [], _∷_}
+use Prim.Native.Nat.{ℕ, _<_}
+use native.Mathlib.Omega.{arith}
+use Rattle.records.specs.Checks.{Check, must, firstFailing}
+
+pub first-none : firstFailing [] ≡ 0
+unfolding firstFailing
+first-none = refl
+
+module _ (number : ℕ) (cs : List Check) where
+  pub first-pass : (b : Bool) → b ≡ true → firstFailing (must b number ∷ cs) ≡ firstFailing cs
+  unfolding firstFailing
+  first-pass b e = rw e
+
+  pub first-fail : (b : Bool) → b ≡ false → firstFailing (must b number ∷ cs) ≡ number
+  unfolding firstFailing
+  first-fail b e = rw e
+
+  -- where no check failed the first holds, and none of the others failed
+  pub first-zero : (b : Bool) → 0 < number → firstFailing (must b number ∷ cs) ≡ 0 → (b ≡ true) × (firstFailing cs ≡ 0)
+  unfolding firstFailing
+  first-zero true h e = (refl, e)
+  first-zero false h e = absurd (omega arith)

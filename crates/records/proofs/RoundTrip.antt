@@ -1,0 +1,55 @@
+-- What is written reads back, and what was read is written back. With them the other statements about every byte string: the answer of a
+-- check, the refused action, and the count. Assumes nothing.
+use mathlib.Core.Path.{_≡_, refl, sym, ap, _∙_}
+use mathlib.Core.Bool.{true}
+use mathlib.Core.List.{List, [], _∷_, _++_, append-nil, append-assoc}
+use mathlib.Core.Logic.{_≢_}
+use Prim.Native.Nat.{ℕ, suc, _+_, _*_, _/_, _≤_, _<_}
+use native.Mathlib.Omega.{arith}
+use lib.ListN.{length, drop, drop-of-length-le}
+use lib.Seq.{drop-cons}
+use Rattle.records.specs.declared.Action.{Action}
+use Rattle.records.specs.declared.Reading.{Reading}
+use Rattle.records.specs.Records.{byteAt, Bytes, Fits, numberAt, littleEndian, actionOf, bytesOf, wellFormed, checkOf, readOf, Written, written}
+use Rattle.records.proofs.NumberLaws.{number-back, number-at-back, length-little}
+use Rattle.records.proofs.RecordLaws.{check-zero, read-answer, read-accepted, read-good, write-good, write-zero}
+
+-- ---- an action in sixteen bytes
+pub bytes-length : (x : Action) → length (bytesOf x) ≡ 16
+unfolding bytesOf littleEndian
+bytes-length x = refl
+
+pub action-back : (x : Action) → Fits x → actionOf (bytesOf x) ≡ x
+unfolding actionOf bytesOf numberAt littleEndian
+action-back x h =
+    let at4 : numberAt (bytesOf x) 4 ≡ x .a = number-back 4 (x .a) (h .a) in
+    let at8 : numberAt (bytesOf x) 8 ≡ x .b = number-back 4 (x .b) (h .b) in
+    let at12 : numberAt (bytesOf x) 12 ≡ x .c = number-back 4 (x .c) (h .c) in
+    rw (at4, at8, at12)
+
+-- ---- sixteen bytes as an action
+pub bytes-back : (bytes : List ℕ) → length bytes ≡ 16 → Bytes bytes → bytesOf (actionOf bytes) ≡ bytes
+unfolding actionOf bytesOf
+bytes-back bytes e h =
+    let none : drop 16 bytes ≡ [] = drop-of-length-le bytes {i = 16} (omega arith) in
+    let last : littleEndian 4 (numberAt bytes 12) ≡ drop 12 bytes =
+    sym (append-nil _) ∙ ap (λ (l : List ℕ). littleEndian 4 (numberAt bytes 12) ++ l) (sym none) ∙ number-at-back bytes 12 (omega arith) h in
+    rw (last, append-assoc, number-at-back bytes 8 (omega arith) h, number-at-back bytes 4 (omega arith) h, front 3 (omega arith), front 2 (omega arith), front 1 (omega arith)) (front 0 (omega arith))
+  where
+    front : (at : ℕ) → at < length bytes → byteAt bytes at ∷ drop (suc at) bytes ≡ drop at bytes
+    front at l = sym (drop-cons bytes at 0 l)
+
+-- ---- through the calls
+pub written-reads-back : (x : Action) (place : List ℕ) → Fits x → written x place .answer ≡ 0 → readOf (written x place .place) ≡ record { answer = 0; action = x }
+written-reads-back x place h e =
+    let fit = write-zero x place e in
+    let same : actionOf (bytesOf x) ≡ x = action-back x h in
+    let good : record { answer = 0; action = actionOf (bytesOf x) } ≡ readOf (bytesOf x) = read-good (bytesOf x) (bytes-length x) (ap wellFormed same ∙ fit .1) in
+    rw (← write-good x place (fit .0) (fit .1), ← good, same)
+
+pub read-writes-back : (bytes place : List ℕ) → Bytes bytes → readOf bytes .answer ≡ 0 → length place ≡ 16
+    → written (readOf bytes .action) place ≡ record { answer = 0; place = bytes }
+read-writes-back bytes place h e l =
+    let z : checkOf bytes ≡ 0 = sym (read-answer bytes) ∙ e in
+    let fit = check-zero bytes z in
+    rw (read-accepted bytes z, ← write-good (actionOf bytes) place l (fit .1), bytes-back bytes (fit .0) h)
