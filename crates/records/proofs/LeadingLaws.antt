@@ -94,11 +94,11 @@ module _ (bytes : List ℕ) where
 
   pub leading-counted : (i : ℕ) → i < leading bytes → checkOf (recordAt bytes i) ≡ 0
   unfolding leading
-  leading-counted i l = rw (zero-add i) at from-counted 0 (length bytes / 16) i l
+  leading-counted i l = rw (zero-add i) at (from-counted 0 (length bytes / 16) i l)
 
   pub leading-next : 16 * leading bytes + 16 ≤ length bytes → checkOf (recordAt bytes (leading bytes)) ≡ 3
   unfolding leading
   leading-next l =
       let n = leading bytes in
       check-other (recordAt bytes n) (length-take-le 16 (drop (16 * n) bytes) (simp length-drop (omega arith)))
-      (rw (zero-add n) at from-next 0 (length bytes / 16) (omega arith))
+      (rw (zero-add n) at (from-next 0 (length bytes / 16) (omega arith)))

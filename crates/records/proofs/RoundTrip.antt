@@ -31,13 +31,20 @@ action-back x h =
 pub bytes-back : (bytes : List ℕ) → length bytes ≡ 16 → Bytes bytes → bytesOf (actionOf bytes) ≡ bytes
 unfolding actionOf bytesOf
 bytes-back bytes e h =
-    let none : drop 16 bytes ≡ [] = drop-of-length-le bytes {i = 16} (omega arith) in
-    let last : littleEndian 4 (numberAt bytes 12) ≡ drop 12 bytes =
-    sym (append-nil _) ∙ ap (λ (l : List ℕ). littleEndian 4 (numberAt bytes 12) ++ l) (sym none) ∙ number-at-back bytes 12 (omega arith) h in
-    rw (last, append-assoc, number-at-back bytes 8 (omega arith) h, number-at-back bytes 4 (omega arith) h, front 3 (omega arith), front 2 (omega arith), front 1 (omega arith)) (front 0 (omega arith))
+    let n4 = littleEndian 4 (numberAt bytes 4) in
+    let n8 = littleEndian 4 (numberAt bytes 8) in
+    let n12 = littleEndian 4 (numberAt bytes 12) in
+    let last : n12 ≡ drop 12 bytes = sym (append-nil n12) ∙ ap (λ (l : List ℕ). n12 ++ l) (sym none) ∙ number-at-back bytes 12 (omega arith) h in
+    let numbers : n4 ++ n8 ++ n12 ≡ drop 4 bytes =
+    append-assoc n4 n8 n12 ∙ ap (λ (l : List ℕ). n4 ++ (n8 ++ l)) last ∙ ap (λ (l : List ℕ). n4 ++ l) (number-at-back bytes 8 (omega arith) h)
+    ∙ number-at-back bytes 4 (omega arith) h in
+    rw (numbers, front 3 (omega arith), front 2 (omega arith), front 1 (omega arith)) (front 0 (omega arith))
   where
     front : (at : ℕ) → at < length bytes → byteAt bytes at ∷ drop (suc at) bytes ≡ drop at bytes
     front at l = sym (drop-cons bytes at 0 l)
+
+    none : drop 16 bytes ≡ []
+    none = drop-of-length-le bytes {i = 16} (omega arith)
 
 -- ---- through the calls
 pub written-reads-back : (x : Action) (place : List ℕ) → Fits x → written x place .answer ≡ 0 → readOf (written x place .place) ≡ record { answer = 0; action = x }

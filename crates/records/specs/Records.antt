@@ -45,7 +45,7 @@ actionOf bytes =
 
 unfoldable pub bytesOf : Action → List ℕ
 bytesOf x =
-    x .kind ∷ x .desk .0 ∷ x .other .0 ∷ x .entry .0 ∷ littleEndian 4 (x .a) ++ littleEndian 4 (x .b) ++ littleEndian 4 (x .c)
+    (x .kind ∷ x .desk .0 ∷ x .other .0 ∷ x .entry .0 ∷ []) ++ littleEndian 4 (x .a) ++ littleEndian 4 (x .b) ++ littleEndian 4 (x .c)
 
 -- the fields fit their types
 pub record Fits (x : Action) : Type 0 where

@@ -3,9 +3,6 @@ use borrow.Author.Needs.{needs}
 use Rattle.records.specs.Records.{actionOf}
 use Rattle.records.proofs.action_in.Statement.{statement}
 use Rattle.records.proofs.action_in.Tie as tie
-use Rattle.records.proofs.action_in.Reads as reads
-use Rattle.records.proofs.action_in.Lts as lts
-use Rattle.records.proofs.number_at.Reads as number-at-reads
 
 shared-slice-read-t3 : tie.Need-shared-slice-read-t3
 shared-slice-read-t3 c = search needs

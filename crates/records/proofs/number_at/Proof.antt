@@ -4,9 +4,6 @@ use borrow.Author.Needs.{needs}
 use Rattle.records.proofs.NumberLaws.{number-at}
 use Rattle.records.proofs.number_at.Statement.{statement}
 use Rattle.records.proofs.number_at.Tie as tie
-use Rattle.records.proofs.number_at.Reads as reads
-use Rattle.records.proofs.number_at.Lts as lts
-use Rattle.records.proofs.wide.Reads as wide-reads
 
 shared-slice-read-wide : tie.Need-shared-slice-read-wide
 shared-slice-read-wide c = search needs

@@ -5,9 +5,6 @@ use Rattle.records.proofs.ReturnLaws.{all-stores, stores-keep, stores-r
 use borrow.Author.Needs.{needs}
 use Rattle.records.proofs.put_action.Statement.{statement}
 use Rattle.records.proofs.put_action.Tie as tie
-use Rattle.records.proofs.put_action.Reads as reads
-use Rattle.records.proofs.put_action.Lts as lts
-use Rattle.records.proofs.put_number.Reads as put-number-reads
 
 slice-write-place : tie.Need-slice-write-place
 slice-write-place c = search needs

@@ -5,8 +5,6 @@ use borrow.Author.Needs.{needs}
 use Rattle.records.proofs.NumberLaws.{four-stores}
 use Rattle.records.proofs.put_number.Statement.{statement}
 use Rattle.records.proofs.put_number.Tie as tie
-use Rattle.records.proofs.put_number.Reads as reads
-use Rattle.records.proofs.put_number.Lts as lts
 
 cast-place : tie.Need-cast-place
 cast-place c = search needs

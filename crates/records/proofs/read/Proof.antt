@@ -5,11 +5,6 @@ use Rattle.records.proofs.ReturnLaws.{reads-bad, reads-good}
 use borrow.Author.Needs.{needs}
 use Rattle.records.proofs.read.Statement.{statement}
 use Rattle.records.proofs.read.Tie as tie
-use Rattle.records.proofs.read.Reads as reads
-use Rattle.records.proofs.read.Lts as lts
-use Rattle.records.proofs.Action.well_formed.Reads as well-formed-reads
-use Rattle.records.proofs.Reading.refused.Reads as refused-reads
-use Rattle.records.proofs.action_in.Reads as action-in-reads
 
 refused-requires : tie.Need-refused-requires
 refused-requires c κs = search needs

@@ -3,9 +3,6 @@ use Rattle.records.proofs.RecordLaws.{check-is-read}
 use borrow.Author.Needs.{needs}
 use Rattle.records.proofs.umidezh_check_record.Statement.{statement}
 use Rattle.records.proofs.umidezh_check_record.Tie as tie
-use Rattle.records.proofs.umidezh_check_record.Reads as reads
-use Rattle.records.proofs.umidezh_check_record.Lts as lts
-use Rattle.records.proofs.read.Reads as read-reads
 
 read-requires : tie.Need-read-requires
 read-requires c κs = search needs

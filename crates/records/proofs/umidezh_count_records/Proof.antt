@@ -7,9 +7,6 @@ use borrow.Author.Needs.{needs}
 use Rattle.records.proofs.LeadingLaws.{Counting, count-start, count-stop, count-more, count-end}
 use Rattle.records.proofs.umidezh_count_records.Statement.{statement}
 use Rattle.records.proofs.umidezh_count_records.Tie as tie
-use Rattle.records.proofs.umidezh_count_records.Reads as reads
-use Rattle.records.proofs.umidezh_count_records.Lts as lts
-use Rattle.records.proofs.umidezh_check_record.Reads as umidezh-check-record-reads
 
 abbrev Inv-loop : tie.InvT-loop
 Inv-loop sequence whole count₀ count = (16 * whole ≤ length sequence) × Counting sequence whole count

@@ -4,10 +4,6 @@ use Rattle.records.proofs.ReturnLaws.{writes-bad, writes-good}
 use borrow.Author.Needs.{needs}
 use Rattle.records.proofs.write.Statement.{statement}
 use Rattle.records.proofs.write.Tie as tie
-use Rattle.records.proofs.write.Reads as reads
-use Rattle.records.proofs.write.Lts as lts
-use Rattle.records.proofs.Action.well_formed.Reads as well-formed-reads
-use Rattle.records.proofs.put_action.Reads as put-action-reads
 
 returns : tie.Need-returns
 returns c = search write-long

@@ -4,8 +4,6 @@ use Rattle.records.specs.Records.{unused, allZero, wellFormed}
 use Rattle.records.proofs.RecordLaws.{unknown, above}
 use Rattle.records.proofs.Action.well_formed.Statement.{statement}
 use Rattle.records.proofs.Action.well_formed.Tie as tie
-use Rattle.records.proofs.Action.well_formed.Reads as reads
-use Rattle.records.proofs.Action.well_formed.Lts as lts
 
 returns : tie.Need-returns
 unfolding wellFormed unused allZero
@@ -37,7 +35,7 @@ returns-7 c = rw (c .match .keys7) (simp (and-assoc, and-true))
 
 returns-8 : tie.Need-returns-8
 unfolding wellFormed unused allZero
-returns-8 c = rw (c .match .keys8) (simp (and-assoc, and-true))
+returns-8 c = rw (c .match .keys8) (simp and-true)
 
 returns-9 : tie.Need-returns-9
 unfolding wellFormed unused allZero
