@@ -1,9 +1,10 @@
--- Laws of `firstFailing`: each return of a function that makes its checks in order is one of these. Nobody else unfolds it. Assumes nothing.
-use mathlib.Core.Path.{_≡_, refl}
-use mathlib.Core.Bool.{Bool, true, false}
+-- Laws of `firstFailing`, which nobody else unfolds, and of a call's result that is tested. Assumes nothing.
+use mathlib.Core.Path.{_≡_, refl, sym, _∙_}
+use mathlib.Core.Bool.{Bool, true, false, not}
 use mathlib.Core.List.{List, [], _∷_}
 use Prim.Native.Nat.{ℕ, _<_}
 use native.Mathlib.Omega.{arith}
+use borrow.Author.Tests.{not-true, not-false}
 use Rattle.records.specs.Checks.{Check, must, firstFailing}
 
 pub first-none : firstFailing [] ≡ 0
@@ -24,3 +25,10 @@ module _ (number : ℕ) (cs : List Check) where
   unfolding firstFailing
   first-zero true h e = (refl, e)
   first-zero false h e = absurd (omega arith)
+
+-- what a test says of a call's result, said of what the call ensures
+pub was-true : {r q : Bool} → r ≡ q → not r ≡ false → q ≡ true
+was-true {r} e t = sym e ∙ not-false r t
+
+pub was-false : {r q : Bool} → r ≡ q → not r ≡ true → q ≡ false
+was-false {r} e t = sym e ∙ not-true r t

@@ -61,7 +61,7 @@ module _ (bytes : List ℕ) where
       go (no h) ih = rw (from-bad k (suc n) h, add-zero k) h
 
   -- ---- a loop: w records, of which k were looked at and are well formed
-  part : (k : ℕ) → take (16 * k + 16 - 16 * k) (drop (16 * k) bytes) ≡ recordAt bytes k
+  pub part : (k : ℕ) → take (16 * k + 16 - 16 * k) (drop (16 * k) bytes) ≡ recordAt bytes k
   part k = let e : 16 * k + 16 - 16 * k ≡ 16 = omega arith in rw e
 
   abbrev pub Counting : ℕ → ℕ → Type 0
@@ -96,9 +96,12 @@ module _ (bytes : List ℕ) where
   unfolding leading
   leading-counted i l = rw (zero-add i) at (from-counted 0 (length bytes / 16) i l)
 
+  pub record-long : (k : ℕ) → 16 * k + 16 ≤ length bytes → length (recordAt bytes k) ≡ 16
+  record-long k l = length-take-le 16 (drop (16 * k) bytes) (simp length-drop (omega arith))
+
   pub leading-next : 16 * leading bytes + 16 ≤ length bytes → checkOf (recordAt bytes (leading bytes)) ≡ 3
   unfolding leading
   leading-next l =
       let n = leading bytes in
-      check-other (recordAt bytes n) (length-take-le 16 (drop (16 * n) bytes) (simp length-drop (omega arith)))
+      check-other (recordAt bytes n) (record-long n l)
       (rw (zero-add n) at (from-next 0 (length bytes / 16) (omega arith)))

@@ -33,11 +33,24 @@ bytes-back (b ∷ bytes) h =
     let high : (b + 256 * numberOf bytes) / 256 ≡ numberOf bytes = omega arith in
     rw (low, high) (ap (λ (r : List ℕ). b ∷ r) (bytes-back bytes (λ i. h (suc i))))
 
+pub number-lt : (bytes : List ℕ) → Bytes bytes → numberOf bytes < 256 ^ length bytes
+unfolding numberOf
+number-lt [] h = omega arith
+number-lt (b ∷ bytes) h =
+    let l : b < 256 = h 0 in
+    let m : numberOf bytes < 256 ^ length bytes = number-lt bytes (λ i. h (suc i)) in
+    rw (pow-succ' 256 (length bytes)) (omega arith)
+
 pub little-bytes : (k n : ℕ) → Bytes (littleEndian k n)
 unfolding littleEndian
 little-bytes zero n i = omega arith
 little-bytes (suc k) n zero = omega arith
 little-bytes (suc k) n (suc i) = little-bytes k (n / 256) i
+
+pub append-bytes : (xs ys : List ℕ) → Bytes xs → Bytes ys → Bytes (xs ++ ys)
+append-bytes [] ys h l i = l i
+append-bytes (x ∷ xs) ys h l zero = h 0
+append-bytes (x ∷ xs) ys h l (suc i) = append-bytes xs ys (λ j. h (suc j)) l i
 
 -- ---- at a place of a byte string
 module _ (bytes : List ℕ) (at : ℕ) (fits : at + 4 ≤ length bytes) where
@@ -56,18 +69,27 @@ module _ (bytes : List ℕ) (at : ℕ) (fits : at + 4 ≤ length bytes) where
   unfolding numberAt numberOf
   number-at p q r s = rw four (omega arith)
 
+  part-long : length (take 4 (drop at bytes)) ≡ 4
+  part-long = length-take-le 4 (drop at bytes) (simp length-drop (omega arith))
+
+  part-bytes : Bytes bytes → Bytes (take 4 (drop at bytes))
+  part-bytes h i = go (decLt i 4)
+    where
+      go : Dec (i < 4) → byteAt (take 4 (drop at bytes)) i < 256
+      go (yes l) = rw (getD-take 4 (drop at bytes) i 0 l, getD-drop at bytes i 0) (h (at + i))
+      go (no g) = rw (List·getD-eq-default (take 4 (drop at bytes)) 0 {n = i} (rw part-long (omega arith))) (omega arith)
+
+  pub number-at-lt : Bytes bytes → numberAt bytes at < 2 ^ 32
+  unfolding numberAt
+  number-at-lt h = rw part-long at (number-lt (take 4 (drop at bytes)) (part-bytes h))
+
   -- the number's bytes, and what comes after them
   pub number-at-back : Bytes bytes → littleEndian 4 (numberAt bytes at) ++ drop (at + 4) bytes ≡ drop at bytes
   unfolding numberAt
   number-at-back h =
       let part = take 4 (drop at bytes) in
-      let long : length part ≡ 4 = length-take-le 4 (drop at bytes) (simp length-drop (omega arith)) in
-      let same : littleEndian 4 (numberOf part) ≡ part = rw long at (bytes-back part (λ i. part-bytes i (decLt i 4))) in
+      let same : littleEndian 4 (numberOf part) ≡ part = rw part-long at (bytes-back part (part-bytes h)) in
       rw (same, ← drop-drop 4 at bytes) (take-append-drop 4 (drop at bytes))
-    where
-      part-bytes : (i : ℕ) → Dec (i < 4) → byteAt (take 4 (drop at bytes)) i < 256
-      part-bytes i (yes l) = rw (getD-take 4 (drop at bytes) i 0 l, getD-drop at bytes i 0) (h (at + i))
-      part-bytes i (no g) = rw (List·getD-eq-default (take 4 (drop at bytes)) 0 {n = i} (rw (length-take-le 4 (drop at bytes) (simp length-drop (omega arith))) (omega arith))) (omega arith)
 
 -- the code that puts a number's four bytes
 pub four-stores : (place : List ℕ) (at n : ℕ) → n < 2 ^ 32

@@ -4,17 +4,21 @@ use mathlib.Core.Path.{_≡_, refl, sym, ap, _∙_}
 use mathlib.Core.Bool.{Bool, true, false, cond, _&&_}
 use mathlib.Core.List.{List, [], _∷_}
 use mathlib.Core.Logic.{_≢_}
-use Prim.Native.Nat.{ℕ, zero, suc, _≤_, zero-le}
+use Prim.Native.Nat.{ℕ, zero, suc, _≤_, _<_, zero-le}
 use native.Mathlib.Decide.{ℕ-discrete}
 use native.Mathlib.Omega.{arith}
 use lib.Dec.{eqb, ltb, lit<}
 use lib.ListN.{length, getD}
-use borrow.Author.Tests.{eq-eqb, ne-eqb, eqb-true, le-ltb}
+use borrow.Author.Tests.{eq-eqb, ne-eqb, eqb-true, le-ltb, ltb-true}
 use Rattle.records.specs.Checks.{must}
 use Rattle.records.specs.declared.Action.{Action}
 use Rattle.records.specs.declared.Reading.{Reading}
-use Rattle.records.specs.Records.{actionOf, bytesOf, unused, allZero, wellFormed, zeros, refused, formAnswer, checkOf, readOf, Written, written}
+use Rattle.records.specs.Records.{littleEndian, actionOf, bytesOf, unused, allZero, wellFormed, zeros, refused, formAnswer, checkOf, readOf, Written, written}
 use Rattle.records.proofs.CheckLaws.{first-none, first-pass, first-fail, first-zero}
+
+and-left : (a b : Bool) → a && b ≡ true → a ≡ true
+and-left true b h = refl
+and-left false b h = h
 
 -- a kind that is not in the table: what is known where no arm of a `match` took it
 abbrev NoneBelow : ℕ → ℕ → Type 0
@@ -28,6 +32,14 @@ above (suc k) x h = let l : k ≤ x = above k x (h .0) in let n : x ≢ k = h .1
 pub unknown : (x : Action) → length (unused x) ≤ x .kind → false ≡ wellFormed x
 unfolding wellFormed
 unknown x h = rw (le-ltb _ _ h)
+
+pub known : (x : Action) → wellFormed x ≡ true → x .kind < length (unused x)
+unfolding wellFormed
+known x w = ltb-true _ _ (and-left _ _ w)
+
+pub bytes-length : (x : Action) → length (bytesOf x) ≡ 16
+unfolding bytesOf littleEndian
+bytes-length x = refl
 
 -- ---- the answer
 module _ (long : ℕ) (x : Action) where
@@ -103,6 +115,19 @@ module _ (bytes : List ℕ) where
 
   pub read-good : length bytes ≡ 16 → wellFormed (actionOf bytes) ≡ true → record { answer = 0; action = actionOf bytes } ≡ readOf bytes
   read-good e w = sym (read-accepted (check-good e w))
+
+  -- of sixteen bytes
+  pub read-part : length bytes ≡ 16 → readOf bytes ≡ cond (wellFormed (actionOf bytes)) (record { answer = 0; action = actionOf bytes }) (refused 3)
+  read-part e = go (wellFormed (actionOf bytes)) refl
+    where
+      go : (b : Bool) → wellFormed (actionOf bytes) ≡ b → readOf bytes ≡ cond b (record { answer = 0; action = actionOf bytes }) (refused 3)
+      go true w = sym (read-good e w)
+      go false w = sym (read-bad e w)
+
+  pub read-zero : readOf bytes .answer ≡ 0 → (length bytes ≡ 16) × (wellFormed (actionOf bytes) ≡ true) × (readOf bytes .action ≡ actionOf bytes)
+  read-zero e =
+      let z : checkOf bytes ≡ 0 = sym read-answer ∙ e in
+      (check-zero z .0, check-zero z .1, rw (read-accepted z))
 
   pub read-zeros : readOf bytes .answer ≢ 0 → readOf bytes .action ≡ zeros
   read-zeros h = rw (read-refused (λ e. h (read-answer ∙ e)))

@@ -6,17 +6,10 @@ use Prim.Native.Nat.{ℕ, _≤_}
 use native.Mathlib.Omega.{arith}
 use lib.ListN.{length, drop, set, drop-of-length-le}
 use lib.Seq.{sets, sets-eq, length-sets}
-use borrow.Author.Tests.{not-true, not-false}
 use Rattle.records.specs.declared.Action.{Action}
 use Rattle.records.specs.Records.{littleEndian, actionOf, bytesOf, wellFormed, refused, readOf, written}
+use Rattle.records.proofs.CheckLaws.{was-true, was-false}
 use Rattle.records.proofs.RecordLaws.{read-bad, read-good, write-bad, write-good}
-
--- what a test says of a call's result, said of what the call ensures
-pub was-true : {r q : Bool} → r ≡ q → not r ≡ false → q ≡ true
-was-true {r} e t = sym e ∙ not-false r t
-
-pub was-false : {r q : Bool} → r ≡ q → not r ≡ true → q ≡ false
-was-false {r} e t = sym e ∙ not-true r t
 
 module _ (x : Action) (bytes : List ℕ) {r : Bool} (long : length bytes ≡ 16) (is : x ≡ actionOf bytes) (form : r ≡ wellFormed x) where
   pub reads-bad : not r ≡ true → refused 3 ≡ readOf bytes
@@ -33,18 +26,14 @@ module _ (x : Action) (place : List ℕ) {r : Bool} (long : length place ≡ 16)
   writes-good e t = rw e (write-good x place long (was-true form t))
 
 -- sixteen bytes put one after another leave nothing of what was there
-pub all-stores : (place p q r : List ℕ) (x : Action) → length place ≡ 16
+pub all-stores : (place p q r : List ℕ) (x : Action)
     → p ≡ sets (set (set (set (set place 0 (x .kind)) 1 (x .desk .0)) 2 (x .other .0)) 3 (x .entry .0)) 4 (littleEndian 4 (x .a))
-    → q ≡ sets p 8 (littleEndian 4 (x .b)) → r ≡ sets q 12 (littleEndian 4 (x .c)) → r ≡ bytesOf x
+    → q ≡ sets p 8 (littleEndian 4 (x .b)) → r ≡ sets q 12 (littleEndian 4 (x .c)) → length place ≡ 16 → r ≡ bytesOf x
 unfolding littleEndian bytesOf
-all-stores place p q r x long e f g =
+all-stores place p q r x e f g long =
     let none : drop 16 place ≡ [] = drop-of-length-le place {i = 16} (omega arith) in
     rw (g, f, e) (sets-eq (bytesOf x) place 0 (omega arith) ∙ ap (λ (l : List ℕ). bytesOf x ++ l) none)
 
 -- and the place keeps its length
-module _ (p q : List ℕ) (at n k : ℕ) (e : q ≡ sets p at (littleEndian 4 n)) where
-  pub stores-keep : length p ≡ k → length q ≡ k
-  stores-keep l = ap length e ∙ length-sets p at (littleEndian 4 n) ∙ l
-
-  pub stores-room : k ≤ length p → k ≤ length q
-  stores-room l = rw (e, length-sets p at (littleEndian 4 n)) l
+pub stores-room : (p q : List ℕ) (at n k : ℕ) → q ≡ sets p at (littleEndian 4 n) → k ≤ length p → k ≤ length q
+stores-room p q at n k e l = rw (e, length-sets p at (littleEndian 4 n)) l

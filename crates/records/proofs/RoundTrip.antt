@@ -4,21 +4,17 @@ use mathlib.Core.Path.{_≡_, refl, sym, ap, _∙_}
 use mathlib.Core.Bool.{true}
 use mathlib.Core.List.{List, [], _∷_, _++_, append-nil, append-assoc}
 use mathlib.Core.Logic.{_≢_}
-use Prim.Native.Nat.{ℕ, suc, _+_, _*_, _/_, _≤_, _<_}
+use Prim.Native.Nat.{ℕ, zero, suc, _+_, _*_, _/_, _≤_, _<_}
 use native.Mathlib.Omega.{arith}
 use lib.ListN.{length, drop, drop-of-length-le}
 use lib.Seq.{drop-cons}
 use Rattle.records.specs.declared.Action.{Action}
 use Rattle.records.specs.declared.Reading.{Reading}
 use Rattle.records.specs.Records.{byteAt, Bytes, Fits, numberAt, littleEndian, actionOf, bytesOf, wellFormed, checkOf, readOf, Written, written}
-use Rattle.records.proofs.NumberLaws.{number-back, number-at-back, length-little}
-use Rattle.records.proofs.RecordLaws.{check-zero, read-answer, read-accepted, read-good, write-good, write-zero}
+use Rattle.records.proofs.NumberLaws.{number-back, number-at-back, number-at-lt, little-bytes, append-bytes}
+use Rattle.records.proofs.RecordLaws.{bytes-length, check-zero, read-answer, read-accepted, read-good, write-good, write-zero}
 
 -- ---- an action in sixteen bytes
-pub bytes-length : (x : Action) → length (bytesOf x) ≡ 16
-unfolding bytesOf littleEndian
-bytes-length x = refl
-
 pub action-back : (x : Action) → Fits x → actionOf (bytesOf x) ≡ x
 unfolding actionOf bytesOf numberAt littleEndian
 action-back x h =
@@ -27,7 +23,32 @@ action-back x h =
     let at12 : numberAt (bytesOf x) 12 ≡ x .c = number-back 4 (x .c) (h .c) in
     rw (at4, at8, at12)
 
+pub bytes-of-bytes : (x : Action) → Fits x → Bytes (bytesOf x)
+unfolding bytesOf
+bytes-of-bytes x h zero = h .kind
+bytes-of-bytes x h (suc zero) = h .desk
+bytes-of-bytes x h (suc (suc zero)) = h .other
+bytes-of-bytes x h (suc (suc (suc zero))) = h .entry
+bytes-of-bytes x h (suc (suc (suc (suc i)))) =
+    let a = littleEndian 4 (x .a) in
+    let b = littleEndian 4 (x .b) in
+    let c = littleEndian 4 (x .c) in
+    append-bytes (a ++ b) c (append-bytes a b (little-bytes 4 (x .a)) (little-bytes 4 (x .b))) (little-bytes 4 (x .c)) i
+
 -- ---- sixteen bytes as an action
+pub action-fits : (bytes : List ℕ) → length bytes ≡ 16 → Bytes bytes → Fits (actionOf bytes)
+unfolding actionOf
+action-fits bytes e h =
+    record {
+      kind = h 0;
+      desk = h 1;
+      other = h 2;
+      entry = h 3;
+      a = number-at-lt bytes 4 (omega arith) h;
+      b = number-at-lt bytes 8 (omega arith) h;
+      c = number-at-lt bytes 12 (omega arith) h;
+    }
+
 pub bytes-back : (bytes : List ℕ) → length bytes ≡ 16 → Bytes bytes → bytesOf (actionOf bytes) ≡ bytes
 unfolding actionOf bytesOf
 bytes-back bytes e h =

@@ -1,7 +1,9 @@
 -- `records::put_action` meets its contract. Assumes nothing.
+use mathlib.Core.Path.{ap, _∙_}
 use native.Mathlib.Omega.{arith}
-use lib.ListN.{length-set}
-use Rattle.records.proofs.ReturnLaws.{all-stores, stores-keep, stores-room}
+use lib.ListN.{length, length-set}
+use Rattle.records.proofs.RecordLaws.{bytes-length}
+use Rattle.records.proofs.ReturnLaws.{all-stores, stores-room}
 use borrow.Author.Needs.{needs}
 use Rattle.records.proofs.put_action.Statement.{statement}
 use Rattle.records.proofs.put_action.Tie as tie
@@ -25,13 +27,22 @@ put-number-requires-2 : tie.Need-put-number-requires-2
 put-number-requires-2 c κs = stores-room _ _ _ _ _ (c .before .before .before .put-number .ensures) (simp length-set (omega arith))
 
 put-number-requires-3 : tie.Need-put-number-requires-3
-put-number-requires-3 c κs = stores-room _ _ _ _ _ (c .before .before .before .put-number2 .ensures) (stores-room _ _ _ _ _ (c .before .before .before .before .before .before .before .put-number .ensures) (simp length-set (omega arith)))
-
-same-length : tie.Need-same-length
-same-length c = stores-keep _ _ _ _ _ (c .before .before .put-number3 .ensures) (stores-keep _ _ _ _ _ (c .before .before .before .before .before .before .put-number2 .ensures) (stores-keep _ _ _ _ _ (c .before .before .before .before .before .before .before .before .before .before .put-number .ensures) (simp length-set)))
+put-number-requires-3 c κs =
+    let second = c .before .before .before in
+    let first = second .before .before .before .before in
+    stores-room _ _ _ _ _ (second .put-number2 .ensures) (stores-room _ _ _ _ _ (first .put-number .ensures) (simp length-set (omega arith)))
 
 returns : tie.Need-returns
-returns c = search all-stores
+returns c =
+    let third = c .before .before in
+    let second = third .before .before .before .before in
+    let first = second .before .before .before .before in
+    let start = first .before .before .before in
+    all-stores (start .args .place .now) _ _ _ (start .args .action) (first .put-number .ensures) (second .put-number2 .ensures)
+    (third .put-number3 .ensures) (start .pre)
+
+same-length : tie.Need-same-length
+same-length c = ap length (returns c) ∙ bytes-length _ ∙ search needs
 
 pub put-action-spec : {M : Type 1} → statement M
 put-action-spec =
