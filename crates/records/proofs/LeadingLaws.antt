@@ -1,6 +1,5 @@
--- Laws of `leading`: a loop that counts up, and what the count says. Nobody else unfolds it. Assumes nothing.
+-- Laws of the records of a sequence and of `leading`: a loop that counts up, and what the count says. Nobody else unfolds it. Assumes nothing.
 use mathlib.Core.Path.{_≡_, refl, sym, ap, _∙_}
-use mathlib.Core.Bool.{Bool, true, false, cond}
 use mathlib.Core.List.{List}
 use mathlib.Core.Logic.{_≢_}
 use Prim.Native.Nat.{ℕ, zero, suc, _+_, _-_, _*_, _/_, _≤_, _<_, zero-le}
@@ -8,7 +7,6 @@ use native.Mathlib.Nat.{sub-zero, zero-add, add-zero, not-suc-le-zero, add-suc, 
 use native.Mathlib.Numerals.{add-one}
 use native.Mathlib.Decide.{ℕ-discrete}
 use native.Mathlib.Omega.{arith}
-use lib.Dec.{eqb}
 use lib.ListN.{length, take, drop, length-drop}
 use lib.Seq.{length-take-le}
 use borrow.Author.Tests.{eq-eqb, ne-eqb}
@@ -16,6 +14,14 @@ use Rattle.records.specs.Records.{checkOf, recordAt, leadingFrom, leadin
 use Rattle.records.proofs.RecordLaws.{check-other}
 
 module _ (bytes : List ℕ) where
+  -- record k, as a part of the sequence
+  pub record-part : (k : ℕ) → take (16 * k + 16 - 16 * k) (drop (16 * k) bytes) ≡ recordAt bytes k
+  record-part k = let e : 16 * k + 16 - 16 * k ≡ 16 = omega arith in rw e
+
+  pub record-long : (k : ℕ) → 16 * k + 16 ≤ length bytes → length (recordAt bytes k) ≡ 16
+  record-long k l = length-take-le 16 (drop (16 * k) bytes) (simp length-drop (omega arith))
+
+  -- ---- the count, from any record on
   from-good : (k n : ℕ) → checkOf (recordAt bytes k) ≡ 0 → leadingFrom bytes k (suc n) ≡ suc (leadingFrom bytes (suc k) n)
   unfolding leadingFrom
   from-good k n e = rw (eq-eqb _ _ e)
@@ -61,9 +67,6 @@ module _ (bytes : List ℕ) where
       go (no h) ih = rw (from-bad k (suc n) h, add-zero k) h
 
   -- ---- a loop: w records, of which k were looked at and are well formed
-  pub part : (k : ℕ) → take (16 * k + 16 - 16 * k) (drop (16 * k) bytes) ≡ recordAt bytes k
-  part k = let e : 16 * k + 16 - 16 * k ≡ 16 = omega arith in rw e
-
   abbrev pub Counting : ℕ → ℕ → Type 0
   Counting w k = leading bytes ≡ k + leadingFrom bytes k (w - k)
 
@@ -79,12 +82,12 @@ module _ (bytes : List ℕ) where
 
     module _ (r : ℕ) (is : r ≡ checkOf (take (16 * k + 16 - 16 * k) (drop (16 * k) bytes))) where
       pub count-stop : r ≢ 0 → k ≡ leading bytes
-      count-stop h = omega (arith, from-bad k (w - k) (λ e. h (is ∙ ap checkOf (part k) ∙ e)))
+      count-stop h = omega (arith, from-bad k (w - k) (λ e. h (is ∙ ap checkOf (record-part k) ∙ e)))
 
       pub count-more : k < w → r ≡ 0 → Counting w (k + 1)
       count-more l z =
           let e : w - k ≡ suc (w - (k + 1)) = omega arith in
-          let good : checkOf (recordAt bytes k) ≡ 0 = ap checkOf (sym (part k)) ∙ sym is ∙ z in
+          let good : checkOf (recordAt bytes k) ≡ 0 = ap checkOf (sym (record-part k)) ∙ sym is ∙ z in
           omega (arith, ap (leadingFrom bytes k) e, from-good k (w - (k + 1)) good, ap (λ (j : ℕ). leadingFrom bytes j (w - (k + 1))) (add-one k))
 
   -- ---- what the count says
@@ -95,9 +98,6 @@ module _ (bytes : List ℕ) where
   pub leading-counted : (i : ℕ) → i < leading bytes → checkOf (recordAt bytes i) ≡ 0
   unfolding leading
   leading-counted i l = rw (zero-add i) at (from-counted 0 (length bytes / 16) i l)
-
-  pub record-long : (k : ℕ) → 16 * k + 16 ≤ length bytes → length (recordAt bytes k) ≡ 16
-  record-long k l = length-take-le 16 (drop (16 * k) bytes) (simp length-drop (omega arith))
 
   pub leading-next : 16 * leading bytes + 16 ≤ length bytes → checkOf (recordAt bytes (leading bytes)) ≡ 3
   unfolding leading

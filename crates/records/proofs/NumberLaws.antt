@@ -1,5 +1,5 @@
 -- Laws of little-endian numbers, for any count of bytes, and of `numberAt`, for any place. Nobody else unfolds them. Assumes nothing.
-use mathlib.Core.Path.{_≡_, refl, sym, ap, ap₂, _∙_}
+use mathlib.Core.Path.{_≡_, refl, sym, ap}
 use mathlib.Core.List.{List, [], _∷_, _++_}
 use Prim.Native.Nat.{ℕ, zero, suc, _+_, _*_, _/_, _%_, _^_, _≤_, _<_}
 use native.Mathlib.Nat.{pow-succ'}
@@ -11,11 +11,6 @@ use lib.Seq.{sets, drop-cons, drop-drop, length-take-le, getD-take, getD-drop}
 use lib.Arith.{lt-one}
 use Rattle.records.specs.Records.{byteAt, Bytes, numberOf, littleEndian, numberAt}
 
-pub length-little : (k n : ℕ) → length (littleEndian k n) ≡ k
-unfolding littleEndian
-length-little zero n = refl
-length-little (suc k) n = ap suc (length-little k (n / 256))
-
 -- a number in k bytes is read back, and bytes are those of their number
 pub number-back : (k n : ℕ) → n < 256 ^ k → numberOf (littleEndian k n) ≡ n
 unfolding numberOf littleEndian
@@ -24,14 +19,14 @@ number-back (suc k) n h =
     let l : n < 256 * 256 ^ k = rw (pow-succ' 256 k) at h in
     omega (arith, number-back k (n / 256) (omega arith))
 
-pub bytes-back : (bytes : List ℕ) → Bytes bytes → littleEndian (length bytes) (numberOf bytes) ≡ bytes
+pub little-back : (bytes : List ℕ) → Bytes bytes → littleEndian (length bytes) (numberOf bytes) ≡ bytes
 unfolding numberOf littleEndian
-bytes-back [] h = refl
-bytes-back (b ∷ bytes) h =
+little-back [] h = refl
+little-back (b ∷ bytes) h =
     let l : b < 256 = h 0 in
     let low : (b + 256 * numberOf bytes) % 256 ≡ b = omega arith in
     let high : (b + 256 * numberOf bytes) / 256 ≡ numberOf bytes = omega arith in
-    rw (low, high) (ap (λ (r : List ℕ). b ∷ r) (bytes-back bytes (λ i. h (suc i))))
+    rw (low, high) (ap (λ (r : List ℕ). b ∷ r) (little-back bytes (λ i. h (suc i))))
 
 pub number-lt : (bytes : List ℕ) → Bytes bytes → numberOf bytes < 256 ^ length bytes
 unfolding numberOf
@@ -88,7 +83,7 @@ module _ (bytes : List ℕ) (at : ℕ) (fits : at + 4 ≤ length bytes) where
   unfolding numberAt
   number-at-back h =
       let part = take 4 (drop at bytes) in
-      let same : littleEndian 4 (numberOf part) ≡ part = rw part-long at (bytes-back part (part-bytes h)) in
+      let same : littleEndian 4 (numberOf part) ≡ part = rw part-long at (little-back part (part-bytes h)) in
       rw (same, ← drop-drop 4 at bytes) (take-append-drop 4 (drop at bytes))
 
 -- the code that puts a number's four bytes

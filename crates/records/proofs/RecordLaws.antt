@@ -2,18 +2,17 @@
 -- unfolded. Assumes nothing.
 use mathlib.Core.Path.{_≡_, refl, sym, ap, _∙_}
 use mathlib.Core.Bool.{Bool, true, false, cond, _&&_}
-use mathlib.Core.List.{List, [], _∷_}
+use mathlib.Core.List.{List}
 use mathlib.Core.Logic.{_≢_}
 use Prim.Native.Nat.{ℕ, zero, suc, _≤_, _<_, zero-le}
 use native.Mathlib.Decide.{ℕ-discrete}
 use native.Mathlib.Omega.{arith}
-use lib.Dec.{eqb, ltb, lit<}
-use lib.ListN.{length, getD}
+use lib.Dec.{lit<}
+use lib.ListN.{length}
 use borrow.Author.Tests.{eq-eqb, ne-eqb, eqb-true, le-ltb, ltb-true}
-use Rattle.records.specs.Checks.{must}
 use Rattle.records.specs.declared.Action.{Action}
 use Rattle.records.specs.declared.Reading.{Reading}
-use Rattle.records.specs.Records.{littleEndian, actionOf, bytesOf, unused, allZero, wellFormed, zeros, refused, formAnswer, checkOf, readOf, Written, written}
+use Rattle.records.specs.Records.{littleEndian, actionOf, bytesOf, unused, wellFormed, zeros, refused, formAnswer, checkOf, readOf, Written, written}
 use Rattle.records.proofs.CheckLaws.{first-none, first-pass, first-fail, first-zero}
 
 and-left : (a b : Bool) → a && b ≡ true → a ≡ true

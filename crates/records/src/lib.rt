@@ -172,8 +172,7 @@ pub fn write(action: Action, place: &mut [u8]) -> u8
 pub extern "C" fn umidezh_check_record(bytes: &[u8]) -> u8
     ensures { λ r. ⌜ r ≡ checkOf (now (bytes .entry)) ⌝ }
 {
-    let done = read(bytes);
-    done.answer
+    read(bytes).answer
 }
 
 // For C: how many records are well formed before the first that is not.
