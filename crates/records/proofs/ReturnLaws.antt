@@ -1,4 +1,4 @@
--- The ways out of `read`, `write` and `put_action`, in the shape of what is known there. Assumes nothing.
+-- The ways out of `action_in`, `read`, `put_action` and `write`, in the shape of what is known there. Assumes nothing.
 use mathlib.Core.Path.{_≡_, sym, ap, _∙_}
 use mathlib.Core.Bool.{Bool, true, false, not}
 use mathlib.Core.List.{List, [], _++_}
@@ -7,9 +7,24 @@ use native.Mathlib.Omega.{arith}
 use lib.ListN.{length, drop, set, drop-of-length-le}
 use lib.Seq.{sets, sets-eq, length-sets}
 use Rattle.records.specs.declared.Action.{Action}
-use Rattle.records.specs.Records.{littleEndian, actionOf, bytesOf, wellFormed, refused, readOf, written}
+use Rattle.records.specs.Records.{byteAt, littleEndian, numberAt, actionOf, bytesOf, wellFormed, refused, readOf, written}
 use Rattle.records.proofs.CheckLaws.{was-true, was-false}
 use Rattle.records.proofs.RecordLaws.{read-bad, read-good, write-bad, write-good}
+
+-- four bytes and three numbers, read at their places
+pub all-reads : (bytes : List ℕ) (a b c : ℕ) → a ≡ numberAt bytes 4 → b ≡ numberAt bytes 8 → c ≡ numberAt bytes 12
+    → record {
+      kind = byteAt bytes 0;
+      desk = record { 0 = byteAt bytes 1 };
+      other = record { 0 = byteAt bytes 2 };
+      entry = record { 0 = byteAt bytes 3 };
+      a = a;
+      b = b;
+      c = c;
+    }
+    ≡ actionOf bytes
+unfolding actionOf
+all-reads bytes a b c e f g = rw (e, f, g)
 
 module _ (x : Action) (bytes : List ℕ) {r : Bool} (long : length bytes ≡ 16) (is : x ≡ actionOf bytes) (form : r ≡ wellFormed x) where
   pub reads-bad : not r ≡ true → refused 3 ≡ readOf bytes

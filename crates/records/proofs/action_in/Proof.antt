@@ -1,6 +1,6 @@
 -- `records::action_in` meets its contract. Assumes nothing.
 use borrow.Author.Needs.{needs}
-use Rattle.records.specs.Records.{actionOf}
+use Rattle.records.proofs.ReturnLaws.{all-reads}
 use Rattle.records.proofs.action_in.Statement.{statement}
 use Rattle.records.proofs.action_in.Tie as tie
 
@@ -26,8 +26,7 @@ number-at-requires-3 : tie.Need-number-at-requires-3
 number-at-requires-3 c κs = search needs
 
 returns : tie.Need-returns
-unfolding actionOf
-returns c = cc
+returns c = search all-reads
 
 pub action-in-spec : {M : Type 1} → statement M
 action-in-spec =

@@ -8,7 +8,7 @@ read-requires : tie.Need-read-requires
 read-requires c κs = search needs
 
 returns : tie.Need-returns
-returns c = search (check-is-read)
+returns c = search check-is-read
 
 pub umidezh-check-record-spec : {M : Type 1} → statement M
 umidezh-check-record-spec = tie.close (tie.spec read-requires returns)
