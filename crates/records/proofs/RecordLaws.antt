@@ -1,23 +1,21 @@
 -- Laws of reading, checking and writing a record: each way out once, and what follows from an answer of 0. A caller needs no definition
 -- unfolded. Assumes nothing.
 use mathlib.Core.Path.{_≡_, refl, sym, ap, _∙_}
-use mathlib.Core.Bool.{Bool, true, false, cond, _&&_}
-use mathlib.Core.List.{List}
+use mathlib.Core.Bool.{Bool, true, false, not, cond}
+use mathlib.Core.List.{List, [], _∷_}
 use mathlib.Core.Logic.{_≢_}
 use Prim.Native.Nat.{ℕ, zero, suc, _≤_, _<_, zero-le}
 use native.Mathlib.Decide.{ℕ-discrete}
 use native.Mathlib.Omega.{arith}
-use lib.Dec.{lit<}
+use lib.Dec.{eqb}
 use lib.ListN.{length}
-use borrow.Author.Tests.{eq-eqb, ne-eqb, eqb-true, le-ltb, ltb-true}
+use borrow.Author.Tests.{not-false, eq-eqb, ne-eqb, eqb-true, le-ltb, ltb-true}
+use Rattle.sets.proofs.Tests.{and-left}
+use Rattle.rules.specs.Rules.{Check, _when_}
+use Rattle.rules.proofs.CheckLaws.{first-fails, first-passes, passed-zero, zero-passed, not-zero}
 use Rattle.records.specs.declared.Action.{Action}
 use Rattle.records.specs.declared.Reading.{Reading}
 use Rattle.records.specs.Records.{littleEndian, actionOf, bytesOf, unused, wellFormed, zeros, refused, formAnswer, checkOf, readOf, Written, written}
-use Rattle.records.proofs.CheckLaws.{first-none, first-pass, first-fail, first-zero}
-
-and-left : (a b : Bool) → a && b ≡ true → a ≡ true
-and-left true b h = refl
-and-left false b h = h
 
 -- a kind that is not in the table: what is known where no arm of a `match` took it
 abbrev NoneBelow : ℕ → ℕ → Type 0
@@ -42,23 +40,27 @@ bytes-length x = refl
 
 -- ---- the answer
 module _ (long : ℕ) (x : Action) where
+  abbrev formChecks : List Check
+  formChecks = 16 when not (eqb long 16) ∷ 3 when not (wellFormed x) ∷ []
+
   pub form-long : long ≢ 16 → formAnswer long x ≡ 16
   unfolding formAnswer
-  form-long h = first-fail _ _ _ (ne-eqb long 16 h)
+  form-long h = first-fails 16 (not (eqb long 16)) (3 when not (wellFormed x) ∷ []) (ap not (ne-eqb long 16 h))
 
   pub form-bad : long ≡ 16 → wellFormed x ≡ false → formAnswer long x ≡ 3
   unfolding formAnswer
-  form-bad e w = first-pass _ _ _ (eq-eqb long 16 e) ∙ first-fail _ _ _ w
+  form-bad e w =
+      first-passes 16 (not (eqb long 16)) (3 when not (wellFormed x) ∷ []) (ap not (eq-eqb long 16 e)) ∙ first-fails 3 (not (wellFormed x)) [] (ap not w)
 
   pub form-good : long ≡ 16 → wellFormed x ≡ true → formAnswer long x ≡ 0
   unfolding formAnswer
-  form-good e w = first-pass _ _ _ (eq-eqb long 16 e) ∙ first-pass _ _ _ w ∙ first-none
+  form-good e w = passed-zero formChecks (ap not (eq-eqb long 16 e), (ap not w, tt))
 
   pub form-zero : formAnswer long x ≡ 0 → (long ≡ 16) × (wellFormed x ≡ true)
   unfolding formAnswer
   form-zero e =
-      let one = first-zero _ _ _ (lit< tt) e in
-      (eqb-true long 16 (one .0), first-zero _ _ _ (lit< tt) (one .1) .0)
+      let (sixteen, (formed, _)) = zero-passed formChecks (not-zero 16 refl, (not-zero 3 refl, tt)) e in
+      (eqb-true long 16 (not-false (eqb long 16) sixteen), not-false (wellFormed x) formed)
 
 -- ---- checking and reading
 module _ (bytes : List ℕ) where

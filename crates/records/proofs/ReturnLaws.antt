@@ -8,7 +8,7 @@ use lib.ListN.{length, drop, set, drop-of-length-le}
 use lib.Seq.{sets, sets-eq, length-sets}
 use Rattle.records.specs.declared.Action.{Action}
 use Rattle.records.specs.Records.{byteAt, littleEndian, numberAt, actionOf, bytesOf, wellFormed, refused, readOf, written}
-use Rattle.records.proofs.CheckLaws.{was-true, was-false}
+use Rattle.sets.proofs.Tests.{was-true, was-false}
 use Rattle.records.proofs.RecordLaws.{read-bad, read-good, write-bad, write-good}
 
 -- four bytes and three numbers, read at their places

@@ -1,11 +1,11 @@
 -- Action records, as in document 01 under that title. A byte string is a list of numbers, each below 256; nothing here asks that.
 -- The laws are in proofs/RecordLaws.antt, proofs/NumberLaws.antt, proofs/LeadingLaws.antt and proofs/RoundTrip.antt. Assumes nothing.
-use mathlib.Core.Bool.{Bool, true, false, cond, _&&_}
+use mathlib.Core.Bool.{Bool, true, not, cond, _&&_}
 use mathlib.Core.List.{List, [], _∷_, _++_}
 use Prim.Native.Nat.{ℕ, zero, suc, _+_, _*_, _/_, _%_, _^_, _<_}
 use lib.Dec.{eqb, ltb}
 use lib.ListN.{length, getD, take, drop}
-use Rattle.records.specs.Checks.{must, firstFailing}
+use Rattle.rules.specs.Rules.{_when_, firstOf}
 use Rattle.records.specs.declared.Action.{Action}
 use Rattle.records.specs.declared.Reading.{Reading}
 
@@ -90,7 +90,7 @@ wellFormed x = ltb (x .kind) (length (unused x)) && allZero (getD (unused x) (x 
 -- ---- "16 if it isn't sixteen bytes, 3 for an unknown kind or a non-zero unused field, otherwise 0"
 
 unfoldable pub formAnswer : ℕ → Action → ℕ
-formAnswer long x = firstFailing (must (eqb long 16) 16 ∷ must (wellFormed x) 3 ∷ [])
+formAnswer long x = firstOf (16 when not (eqb long 16) ∷ 3 when not (wellFormed x) ∷ [])
 
 unfoldable pub checkOf : List ℕ → ℕ
 checkOf bytes = formAnswer (length bytes) (actionOf bytes)
