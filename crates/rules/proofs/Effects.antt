@@ -1,13 +1,15 @@
 -- What each move changes and leaves. A desk forgets nothing; only the desk that a move names changes, but for a delay; settings and
 -- lengths stay, and the clock moves by delays alone. Assumes nothing.
 use mathlib.Core.Path.{_≡_, refl, sym, ap, _∙_, subst}
-use mathlib.Core.Bool.{true, false}
+use mathlib.Core.Bool.{true, false, not, _&&_}
 use mathlib.Core.List.{List}
-use Prim.Native.Nat.{ℕ, _+_, _≤_, _<_}
+use Prim.Native.Nat.{ℕ, _+_, _-_, _≤_, _<_}
 use native.Mathlib.Nat.{le-refl}
+use native.Mathlib.Numerals.{add-one}
 use native.Mathlib.Omega.{arith}
+use lib.Dec.{leb, ltb}
 use lib.ListN.{length, length-set, length-replicate, getD-replicate}
-use Rattle.sets.specs.Sets.{member, insert}
+use Rattle.sets.specs.Sets.{member, insert, size}
 use Rattle.sets.proofs.Tests.{cond-true, cond-false, cond-both}
 use Rattle.sets.proofs.MemberLaws.{insert-keeps}
 use Rattle.sets.proofs.InsertAllLaws.{insertAll-keeps}
@@ -44,6 +46,16 @@ passingOn s i =
 pub passedOn-is : (s : State) (i : ℕ) → passedOn s i ≡ passingOn s i
 unfolding passedOn
 passedOn-is s i = refl
+
+-- ---- what pass on and accept look at
+
+pub due-is : (k : Settings) (d : Desk) (e : ℕ) → due k d e ≡ (ltb (k .f) (size 16 (sources d e)) && not (isSent d e))
+unfolding due
+due-is k d e = rw add-one
+
+pub ripe-is : (k : Settings) (j : ℕ) (d : Desk) (e : ℕ) → ripe k j d e ≡ leb (k .n - k .f) (size 16 (sources d e))
+unfolding ripe
+ripe-is k j d e = refl
 
 -- ---- a desk forgets nothing
 

@@ -1,5 +1,5 @@
 -- Laws of `insertAll`: what a loop that puts in each number that passes a test leaves. Assumes nothing.
-use mathlib.Core.Path.{_≡_, refl, sym, ap, _∙_, subst}
+use mathlib.Core.Path.{_≡_, refl, sym, ap, ap₂, _∙_, subst}
 use mathlib.Core.Logic.{_⊎_, inl, inr}
 use mathlib.Core.Bool.{Bool, true, false, cond, _||_, or-true, or-false, true≢false}
 use Prim.Native.Nat.{ℕ, zero, suc, _+_, _^_, _≤_, _<_}
@@ -77,3 +77,10 @@ module _ (p : ℕ → Bool) (x : ℕ) where
       go : Dec (j < k) → (member x j ≡ true) ⊎ ((j < k) × (p j ≡ true))
       go (yes l) = pair (member x j) (p j) refl refl (sym (insertAll-low k j l) ∙ t) l
       go (no g) = inl (sym (insertAll-high k j (omega arith)) ∙ t)
+
+-- tests that agree below k put in the same
+pub insertAll-same : (p q : ℕ → Bool) (x k : ℕ) → ((i : ℕ) → i < k → p i ≡ q i) → insertAll p x k ≡ insertAll q x k
+unfolding insertAll
+insertAll-same p q x zero h = refl
+insertAll-same p q x (suc k) h =
+    ap₂ (λ (b : Bool) (y : ℕ). cond b (insert y k) y) (h k (omega arith)) (insertAll-same p q x k (λ i l. h i (omega arith)))

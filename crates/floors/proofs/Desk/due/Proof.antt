@@ -1,0 +1,54 @@
+-- `floors::Desk::due` meets its contract. The invariant: the set has the entries below e that are due. Assumes nothing.
+use mathlib.Core.Path.{_≡_, sym, _∙_}
+use Prim.Native.Nat.{_≤_, _-_}
+use native.Mathlib.Omega.{arith}
+use Rattle.sets.specs.Sets.{insertAll}
+use Rattle.sets.proofs.InsertAllLaws.{insertAll-zero}
+use Rattle.rules.specs.Rules.{due}
+use Rattle.floors.specs.Bridge.{settingsOf, readOf}
+use Rattle.floors.proofs.Gather.{gather-due}
+use Rattle.floors.proofs.Desk.due.Statement.{statement}
+use Rattle.floors.proofs.Desk.due.Tie as tie
+
+abbrev Inv-loop : tie.InvT-loop
+Inv-loop settings self u due₀ e₀ found e = (e ≤ u) × (u ≡ settings .u) × (found .0 ≡ insertAll (due (settingsOf settings) (readOf self)) 0 e)
+
+abbrev μ-loop : tie.MeasureT-loop
+μ-loop settings self u due₀ e₀ found e = u - e
+
+empty-requires : tie.Need-empty-requires Inv-loop μ-loop
+empty-requires c κs = omega arith
+
+loop-holds : tie.Need-loop-holds Inv-loop μ-loop
+loop-holds c = (omega arith, omega arith, c .empty .ensures ∙ sym (insertAll-zero _ 0))
+
+cast-at : tie.Need-cast-at Inv-loop μ-loop
+cast-at c = omega arith
+
+mul-t11 : tie.Need-mul-t11 Inv-loop μ-loop
+mul-t11 c = omega arith
+
+element-copy-out-t14 : tie.Need-element-copy-out-t14 Inv-loop μ-loop
+element-copy-out-t14 c = omega arith
+
+is-due-requires : tie.Need-is-due-requires Inv-loop μ-loop
+is-due-requires c κs = omega arith
+
+with-if-requires : tie.Need-with-if-requires Inv-loop μ-loop
+with-if-requires c κs = omega arith
+
+add-e : tie.Need-add-e Inv-loop μ-loop
+add-e c = omega arith
+
+loop-less : tie.Need-loop-less Inv-loop μ-loop
+loop-less c = omega arith
+
+loop-again : tie.Need-loop-again Inv-loop μ-loop
+loop-again c = (omega arith, omega arith, gather-due _ _ _ _ _ _ _ (omega arith) (c .before .before .before .before .before .loop .inv .2) (c .before .is-due .ensures) (c .with-if .ensures))
+
+returns : tie.Need-returns Inv-loop μ-loop
+returns c = let all : c .before .loop .e ≡ c .before .before .before .args .settings .u = omega arith in rw all at (c .before .loop .inv .2)
+
+pub due-spec : {M : Type 1} → statement M
+due-spec =
+    tie.close (tie.spec Inv-loop μ-loop empty-requires loop-holds cast-at mul-t11 element-copy-out-t14 is-due-requires with-if-requires add-e loop-less loop-again returns)
