@@ -4,3 +4,4 @@ pub mod NewCountLaws
 pub mod ScanLaws
 pub mod FoundLaws
 pub mod GapLaws
+pub mod ReachLaws

@@ -1,7 +1,7 @@
 -- Laws of `newCount`: so many notes are added by posting a broadcast, or the broadcasts of several entries, whose notes are all unequal.
 -- Nobody else unfolds it. Assumes nothing.
 use mathlib.Core.Path.{_≡_, refl, sym, _∙_}
-use mathlib.Core.Bool.{Bool, true, false, cond, or-false}
+use mathlib.Core.Bool.{Bool, true, false, not, cond, or-false}
 use mathlib.Core.Logic.{⊎-elim}
 use mathlib.Core.List.{List, [], _∷_, _++_}
 use Prim.Native.Nat.{ℕ, zero, suc, _+_, _*_, _≤_, _<_}
@@ -10,13 +10,14 @@ use native.Mathlib.Numerals.{add-one}
 use native.Mathlib.Omega.{arith}
 use lib.ListN.{length}
 use borrow.Author.Tests.{eqb-true}
-use Rattle.sets.specs.Counting.{count}
-use Rattle.sets.proofs.Tests.{decided}
+use Rattle.sets.specs.Counting.{bit, count}
+use Rattle.sets.proofs.CountLaws.{count-zero, count-step}
+use Rattle.sets.proofs.Tests.{clash, decided}
 use Rattle.rules.specs.Rules.{noteOf, entry, waits, postAll, broadcast, broadcasts}
-use Rattle.rules.proofs.NoteLaws.{entry-note, note-to}
+use Rattle.rules.proofs.NoteLaws.{entry-note}
 use Rattle.rules.proofs.WaitLaws.{waits-one, waits-here, waits-there, Each, each-none}
 use Rattle.rules.proofs.PostLaws.{length-post, postAll-none, postAll-one, postAll-append, waits-postAll}
-use Rattle.rules.proofs.BroadcastLaws.{broadcast-none, broadcast-more, broadcast-only, length-broadcast, each-broadcast, broadcasts-none, broadcasts-more, broadcasts-due, broadcasts-not, length-broadcasts, each-broadcasts}
+use Rattle.rules.proofs.BroadcastLaws.{broadcast-none, broadcast-more, broadcast-next, length-broadcast, each-broadcast, broadcasts-none, broadcasts-more, broadcasts-due, broadcasts-not, length-broadcasts, each-broadcasts}
 use Rattle.notes.specs.Area.{newCount}
 
 module _ (ns : List ℕ) where
@@ -56,13 +57,16 @@ module _ (ns : List ℕ) where
   new-broadcast-more t i e j =
       rw (broadcast-more t i e j, newCount-append (broadcast t i e j) (noteOf t i j e ∷ []), newCount-one (noteOf t i j e))
 
-  -- a turn of the count: b says whether the note x waits
-  module _ (t i e j c c′ x : ℕ) (b : Bool) (inv : c ≡ newCount ns (broadcast t i e j)) (note : x ≡ noteOf t i j e) (asked : b ≡ waits ns x) where
-    pub new-turn : b ≡ false → c′ ≡ c + 1 → c′ ≡ newCount ns (broadcast t i e (j + 1))
-    new-turn f k = k ∙ rw (new-broadcast-more t i e j, ← note, ← asked, f, ← inv)
-
-    pub old-turn : b ≡ true → c′ ≡ c → c′ ≡ newCount ns (broadcast t i e (j + 1))
-    old-turn f k = k ∙ rw (new-broadcast-more t i e j, ← note, ← asked, f, ← inv) (omega arith)
+  -- as many as there are desks to which it does not wait
+  pub new-broadcast-count : (t i e n : ℕ) → newCount ns (broadcast t i e n) ≡ count (λ j. not (waits ns (noteOf t i j e))) n
+  new-broadcast-count t i e zero = new-broadcast-none t i e ∙ sym (count-zero (λ j. not (waits ns (noteOf t i j e))))
+  new-broadcast-count t i e (suc n) =
+      rw (← add-one n, new-broadcast-more t i e n, new-broadcast-count t i e n, count-step (λ j. not (waits ns (noteOf t i j e))) n)
+      (by (waits ns (noteOf t i n e)) (count (λ j. not (waits ns (noteOf t i j e))) n))
+    where
+      by : (b : Bool) (k : ℕ) → k + cond b 0 1 ≡ bit (not b) + k
+      by true k = omega arith
+      by false k = omega arith
 
   -- one entry more
   pub new-broadcasts-none : (test : ℕ → Bool) (t i n : ℕ) → newCount ns (broadcasts test t i n 0) ≡ 0
@@ -109,11 +113,10 @@ counts-broadcast t i e (suc n) =
     rw (← add-one n, broadcast-more t i e n)
     (counts-append (broadcast t i e n) (noteOf t i n e ∷ []) other (counts-broadcast t i e n) (counts-one (noteOf t i n e)))
   where
-    to : (x : ℕ) → (j : ℕ) × (j < n) × (x ≡ noteOf t i j e) → noteOf t i n e ≡ x → ⊥
-    to x (j, l, p) q = omega (arith, note-to t i e n j (q ∙ p))
-
     other : Apart (broadcast t i e n) (noteOf t i n e ∷ [])
-    other x v w = to x (broadcast-only t i e n x v) (eqb-true (noteOf t i n e) x (sym (waits-one (noteOf t i n e) x) ∙ w))
+    other x v w =
+        let q : noteOf t i n e ≡ x = eqb-true (noteOf t i n e) x (sym (waits-one (noteOf t i n e) x) ∙ w) in
+        clash (waits (broadcast t i e n) (noteOf t i n e)) (rw q v) (broadcast-next t i e n)
 
 pub count-broadcast : (ns : List ℕ) (t i e n : ℕ) → length (postAll ns (broadcast t i e n)) ≡ length ns + newCount ns (broadcast t i e n)
 count-broadcast ns t i e n = counts-broadcast t i e n ns

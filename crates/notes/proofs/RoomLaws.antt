@@ -1,7 +1,7 @@
 -- Posting into the area: one note, a list after a list, and the turns of a broadcast and of the broadcasts of several entries.
 -- Assumes nothing.
 use mathlib.Core.Path.{_≡_, sym, _∙_}
-use mathlib.Core.Bool.{Bool, true, false}
+use mathlib.Core.Bool.{Bool, true, false, or-false}
 use mathlib.Core.List.{List, [], _∷_, _++_}
 use Prim.Native.Nat.{ℕ, suc, _+_, _≤_, _<_}
 use native.Mathlib.Nat.{le-trans}
@@ -10,8 +10,8 @@ use native.Mathlib.Omega.{arith}
 use lib.ListN.{length, take, drop, set, length-append}
 use lib.Seq.{length-take-le, set-split, append-snoc}
 use Rattle.rules.specs.Rules.{noteOf, waits, post, postAll, broadcast, broadcasts}
-use Rattle.rules.proofs.PostLaws.{post-old, post-new, postAll-none, postAll-one, postAll-append, postAll-grows}
-use Rattle.rules.proofs.BroadcastLaws.{broadcast-more, post-broadcast-longer, broadcasts-due, broadcasts-not, post-broadcasts-longer}
+use Rattle.rules.proofs.PostLaws.{post-old, post-new, postAll-none, postAll-one, postAll-append, postAll-grows, waits-postAll}
+use Rattle.rules.proofs.BroadcastLaws.{broadcast-next, broadcast-more, post-broadcast-longer, broadcasts-due, broadcasts-not, post-broadcasts-longer}
 use Rattle.notes.specs.Area.{Holds, Room}
 use Rattle.notes.proofs.AreaLaws.{laid-grown, holds-same, holds-notes, holds-length, holds-then}
 
@@ -67,6 +67,17 @@ room-less ns ms w area h r = record { stand = r .stand; fit = le-trans h (r .fit
 -- ---- a turn of a broadcast: the note to desk j is next
 module _ (w : ℕ) (area : List ℕ) (t i e j : ℕ) (left : List ℕ) (count : ℕ)
     (H : Holds (postAll (take w area) (broadcast t i e j)) w area left count) where
+  -- a note that waited before the broadcast waits, and no other
+  pub turn-known : (b : Bool) → b ≡ waits (take w area) (noteOf t i j e) → b ≡ waits (take count left) (noteOf t i j e)
+  turn-known b known =
+      known
+      ∙ rw (
+        holds-notes (postAll (take w area) (broadcast t i e j)) w area left count H,
+        waits-postAll (take w area) (broadcast t i e j) (noteOf t i j e),
+        broadcast-next t i e j,
+      )
+      (sym (or-false (waits (take w area) (noteOf t i j e))))
+
   pub turn-room : (n : ℕ) → j < n → Room (postAll (take w area) (broadcast t i e n)) w area → Room (post (take count left) (noteOf t i j e)) count left
   turn-room n l r =
       let next : Room (postAll (take w area) (broadcast t i e (j + 1))) w area =
@@ -99,5 +110,5 @@ module _ (test : ℕ → Bool) (w : ℕ) (area : List ℕ) (t i n e : ℕ) (left
   not-due-holds d = rw (broadcasts-not test t i n e d) H
 
 -- before the first
-pub none-posted : (w : ℕ) (area : List ℕ) (f : ℕ → List ℕ) → f 0 ≡ [] → w ≤ length area → Holds (postAll (take w area) (f 0)) w area area w
-none-posted w area f e h = rw (e, postAll-none (take w area)) (holds-same w area h)
+pub none-posted : (w : ℕ) (area xs : List ℕ) → xs ≡ [] → w ≤ length area → Holds (postAll (take w area) xs) w area area w
+none-posted w area xs e h = rw (e, postAll-none (take w area)) (holds-same w area h)

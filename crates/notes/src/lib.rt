@@ -4,9 +4,10 @@
 use sets::DeskNo;
 use sets::EntryNo;
 ghost use mathlib.Core.Path.{_≡_};
-ghost use Prim.Native.Nat.{_<_, _≤_};
+ghost use mathlib.Core.Bool.{false};
+ghost use Prim.Native.Nat.{ℕ, _<_, _≤_};
 ghost use mathlib.Core.List.{[], _∷_, _++_};
-ghost use lib.ListN.{length, take, drop, replicate};
+ghost use lib.ListN.{length, getD, take, drop, replicate};
 ghost use Rattle.rules.specs.Rules.{noteOf, timeOut, source, destination, entry, waits, post, postAll, broadcast, earliest, without, everyNote, notPast, noteInShape};
 ghost use Rattle.notes.specs.Area.{Holds, Room, placeOf, newCount, limits};
 
@@ -92,14 +93,34 @@ pub fn earliest(notes: &[u64], source: DeskNo, destination: DeskNo, entry: Entry
     place
 }
 
+// To which desks a note of the broadcast waits already, found by one scan: notes of one broadcast differ
+// in their destinations alone.
+fn reached(notes: &[u64], source: DeskNo, entry: EntryNo, timeout: u32) -> [bool; 256]
+    ensures { λ r. ⌜ ((j : ℕ) → j < 256 → getD r j false ≡ waits (now (notes .entry)) (noteOf timeout (source .0) j (entry .0))) ⌝ }
+{
+    let to_first = pack(timeout, source, DeskNo(0), entry);
+    let mut there = [false; 256];
+    let mut p = 0;
+    while p < notes.len() {
+        let note = notes[p];
+        let to = destination_of(note).0;
+        if note - to as u64 * 256 == to_first {
+            there[to as usize] = true;
+        }
+        p += 1;
+    }
+    there
+}
+
 // How many notes of the broadcast do not wait yet.
 pub fn new_count(notes: &[u64], n: u8, source: DeskNo, entry: EntryNo, timeout: u32) -> usize
     ensures { λ r. ⌜ r ≡ newCount (now (notes .entry)) (broadcast timeout (source .0) (entry .0) n) ⌝ }
 {
+    let there = reached(notes, source, entry, timeout);
     let mut count: usize = 0;
     let mut to: u8 = 0;
     while to < n {
-        if !waits(notes, pack(timeout, source, DeskNo(to), entry)) {
+        if !there[to as usize] {
             count += 1;
         }
         to += 1;
@@ -108,7 +129,7 @@ pub fn new_count(notes: &[u64], n: u8, source: DeskNo, entry: EntryNo, timeout: 
 }
 
 // Whether a note is in shape where there are n desks and so many entries, M is m, and the clock shows `clock`.
-pub fn in_shape(note: u64, n: u8, entries: u8, m: u32, clock: u32) -> bool
+fn in_shape(note: u64, n: u8, entries: u8, m: u32, clock: u32) -> bool
     ensures { λ r. ⌜ r ≡ noteInShape (limits n entries m) clock note ⌝ }
 {
     (note < 72057594037927936)
@@ -167,16 +188,25 @@ pub fn take_out(area: &mut [u64], waiting: usize, at: usize) -> usize
     waiting - 1
 }
 
+// Adds the note at the end unless an equal note waits, which the caller knows.
+fn add_unless(area: &mut [u64], waiting: usize, note: u64, known: bool) -> usize
+    requires { ⌜ (known ≡ waits (take waiting (now area)) note) × Room (post (take waiting (now area)) note) waiting (now area) ⌝ }
+    ensures { λ r. ⌜ Holds (post (take waiting (now (area .entry))) note) waiting (now (area .entry)) (now (area .exit)) r ⌝ }
+{
+    if known {
+        return waiting;
+    }
+    area[waiting] = note;
+    waiting + 1
+}
+
 // Adds the note at the end unless an equal note waits.
 pub fn post(area: &mut [u64], waiting: usize, note: u64) -> usize
     requires { ⌜ Room (post (take waiting (now area)) note) waiting (now area) ⌝ }
     ensures { λ r. ⌜ Holds (post (take waiting (now (area .entry))) note) waiting (now (area .entry)) (now (area .exit)) r ⌝ }
 {
-    if waits(&area[..waiting], note) {
-        return waiting;
-    }
-    area[waiting] = note;
-    waiting + 1
+    let known = waits(&area[..waiting], note);
+    add_unless(area, waiting, note, known)
 }
 
 // Posts a note to each of the desks 0 to n - 1, in that order.
@@ -191,10 +221,12 @@ pub fn broadcast(
     requires { ⌜ Room (postAll (take waiting (now area)) (broadcast timeout (source .0) (entry .0) n)) waiting (now area) ⌝ }
     ensures { λ r. ⌜ Holds (postAll (take waiting (now (area .entry))) (broadcast timeout (source .0) (entry .0) n)) waiting (now (area .entry)) (now (area .exit)) r ⌝ }
 {
+    let there = reached(&area[..waiting], source, entry, timeout);
     let mut count = waiting;
     let mut j: u8 = 0;
     while j < n {
-        count = post(area, count, pack(timeout, source, DeskNo(j), entry));
+        let note = pack(timeout, source, DeskNo(j), entry);
+        count = add_unless(area, count, note, there[j as usize]);
         j += 1;
     }
     count

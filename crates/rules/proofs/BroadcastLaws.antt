@@ -12,8 +12,9 @@ use lib.ListN.{length, length-append}
 use borrow.Author.Tests.{eq-eqb, eqb-true}
 use Rattle.sets.specs.Counting.{bit, count}
 use Rattle.sets.proofs.CountLaws.{count-zero, count-step}
-use Rattle.sets.proofs.Tests.{or-left, or-right, or-cases, clash}
+use Rattle.sets.proofs.Tests.{or-left, or-right, or-cases, clash, decided}
 use Rattle.rules.specs.Rules.{noteOf, waits, post, postAll, broadcast, broadcasts}
+use Rattle.rules.proofs.NoteLaws.{note-to}
 use Rattle.rules.proofs.WaitLaws.{waits-none, waits-one, waits-append, Each}
 use Rattle.rules.proofs.PostLaws.{postAll-append, postAll-last, postAll-longer}
 
@@ -57,6 +58,13 @@ module _ (t i e : ℕ) where
     where
       up : (j : ℕ) × (j < n) × (x ≡ noteOf t i j e) → (j : ℕ) × (j < suc n) × (x ≡ noteOf t i j e)
       up (j, l, p) = (j, omega arith, p)
+
+  -- the note to desk n comes after them
+  pub broadcast-next : (n : ℕ) → waits (broadcast t i e n) (noteOf t i n e) ≡ false
+  broadcast-next n = ⊎-elim (λ w. absurd (not-yet (broadcast-only n (noteOf t i n e) w))) (λ f. f) (decided (waits (broadcast t i e n) (noteOf t i n e)))
+    where
+      not-yet : (j : ℕ) × (j < n) × (noteOf t i n e ≡ noteOf t i j e) → ⊥
+      not-yet (j, l, p) = omega (arith, note-to t i e n j p)
 
   pub each-broadcast : (P : ℕ → Type 0) (n : ℕ) → ((j : ℕ) → j < n → P (noteOf t i j e)) → Each P (broadcast t i e n)
   each-broadcast P n h x w = of (broadcast-only n x w)
