@@ -1,11 +1,11 @@
 -- The search's answer as a place, and its turns. Nobody else unfolds `placeOf`. Assumes nothing.
 use mathlib.Core.Path.{_≡_, refl, sym, _∙_}
-use mathlib.Core.Bool.{true}
+use mathlib.Core.Bool.{true, false}
 use mathlib.Core.List.{List}
 use Prim.Native.Nat.{ℕ, _+_, _%_, _^_, _≤_, _<_}
 use native.Mathlib.Omega.{arith}
 use lib.ListN.{length, getD}
-use Rattle.rules.specs.Rules.{noteOf, source, destination, entry, speaksOf, Place, at, none, earliestOf, earliest}
+use Rattle.rules.specs.Rules.{noteOf, source, destination, entry, speaksOf, at, none, earliestOf, earliest}
 use Rattle.rules.proofs.NoteLaws.{source-note, destination-note, entry-note, speaks-key, key-speaks, other-key, time-order, time-order-not}
 use Rattle.rules.proofs.SearchLaws.{earliest-start, earliest-skip, earliest-first, earliest-sooner, earliest-stays, earliest-end, earliestOf-within}
 use Rattle.notes.specs.Area.{placeOf}
@@ -34,53 +34,48 @@ found-one Nothing Nothing e = refl
 -- ---- the search for the notes that are alike but for their time-outs: their numbers agree by 2^24 with one number, the key
 
 module _ (ns : List ℕ) (key : ℕ) (small : key < 2 ^ 24) where
-  abbrev searched : ℕ → Place
-  searched k = earliestOf (source key) (destination key) (entry key) ns k
+  abbrev i : ℕ
+  i = source key
 
-  key-is : noteOf 0 (source key) (destination key) (entry key) ≡ key
+  abbrev j : ℕ
+  j = destination key
+
+  abbrev e : ℕ
+  e = entry key
+
+  key-is : noteOf 0 i j e ≡ key
   key-is = omega arith
 
-  speaks : (k : ℕ) → getD ns k 0 % 2 ^ 24 ≡ key → speaksOf (source key) (destination key) (entry key) (getD ns k 0) ≡ true
-  speaks k h = key-speaks (source key) (destination key) (entry key) (getD ns k 0) (omega arith) (omega arith) (omega arith) (h ∙ sym key-is)
+  speaks : (k : ℕ) → getD ns k 0 % 2 ^ 24 ≡ key → speaksOf i j e (getD ns k 0) ≡ true
+  speaks k h = key-speaks i j e (getD ns k 0) (omega arith) (omega arith) (omega arith) (h ∙ sym key-is)
 
-  pub search-within : (k b : ℕ) (f : Found) → placeOf f ≡ searched k → f ≡ At b → b < k
-  search-within k b f inv e = earliestOf-within (source key) (destination key) (entry key) ns k b (sym inv ∙ place-at f b e) .within
+  pub search-within : (k b : ℕ) (f : Found) → placeOf f ≡ earliestOf i j e ns k → f ≡ At b → b < k
+  search-within k b f inv q = earliestOf-within i j e ns k b (sym inv ∙ place-at f b q) .within
 
   -- f is what the turns before found, g what this turn leaves
-  module _ (k : ℕ) (f g : Found) (inv : placeOf f ≡ searched k) where
-    pub turn-skip : (getD ns k 0 % 2 ^ 24 ≡ key → ⊥) → g ≡ f → placeOf g ≡ searched (k + 1)
-    turn-skip h e =
-        rw e
-        (inv
-        ∙ sym
-        (earliest-skip (source key) (destination key) (entry key) ns k
-        (other-key (source key) (destination key) (entry key) (getD ns k 0) (omega arith) (omega arith) (omega arith) (λ q. h (q ∙ key-is)))))
+  module _ (k : ℕ) (f g : Found) (inv : placeOf f ≡ earliestOf i j e ns k) where
+    pub turn-skip : (getD ns k 0 % 2 ^ 24 ≡ key → ⊥) → g ≡ f → placeOf g ≡ earliestOf i j e ns (k + 1)
+    turn-skip h q =
+        let other : speaksOf i j e (getD ns k 0) ≡ false = other-key i j e (getD ns k 0) (omega arith) (omega arith) (omega arith) (λ p. h (p ∙ key-is)) in
+        rw q (inv ∙ sym (earliest-skip i j e ns k other))
 
-    pub turn-first : getD ns k 0 % 2 ^ 24 ≡ key → f ≡ Nothing → g ≡ At k → placeOf g ≡ searched (k + 1)
-    turn-first h p e =
-        place-at g k e ∙ sym (earliest-first (source key) (destination key) (entry key) ns k (speaks k h) (sym inv ∙ place-none f p))
+    pub turn-first : getD ns k 0 % 2 ^ 24 ≡ key → f ≡ Nothing → g ≡ At k → placeOf g ≡ earliestOf i j e ns (k + 1)
+    turn-first h p q = place-at g k q ∙ sym (earliest-first i j e ns k (speaks k h) (sym inv ∙ place-none f p))
 
     module _ (b : ℕ) (h : getD ns k 0 % 2 ^ 24 ≡ key) (p : f ≡ At b) where
-      had : searched k ≡ at b
+      had : earliestOf i j e ns k ≡ at b
       had = sym inv ∙ place-at f b p
 
       alike : getD ns k 0 % 2 ^ 24 ≡ getD ns b 0 % 2 ^ 24
-      alike =
-          h
-          ∙ sym key-is
-          ∙ sym
-          (speaks-key (source key) (destination key) (entry key) (getD ns b 0)
-          (earliestOf-within (source key) (destination key) (entry key) ns k b had .speaks))
+      alike = h ∙ sym key-is ∙ sym (speaks-key i j e (getD ns b 0) (earliestOf-within i j e ns k b had .speaks))
 
-      pub turn-sooner : getD ns k 0 < getD ns b 0 → g ≡ At k → placeOf g ≡ searched (k + 1)
-      turn-sooner l e =
-          place-at g k e
-          ∙ sym (earliest-sooner (source key) (destination key) (entry key) ns k b (speaks k h) had (time-order (getD ns k 0) (getD ns b 0) alike l))
+      pub turn-sooner : getD ns k 0 < getD ns b 0 → g ≡ At k → placeOf g ≡ earliestOf i j e ns (k + 1)
+      turn-sooner l q =
+          place-at g k q ∙ sym (earliest-sooner i j e ns k b (speaks k h) had (time-order (getD ns k 0) (getD ns b 0) alike l))
 
-      pub turn-stays : getD ns b 0 ≤ getD ns k 0 → g ≡ At b → placeOf g ≡ searched (k + 1)
-      turn-stays l e =
-          place-at g b e
-          ∙ sym (earliest-stays (source key) (destination key) (entry key) ns k b (speaks k h) had (time-order-not (getD ns k 0) (getD ns b 0) alike l))
+      pub turn-stays : getD ns b 0 ≤ getD ns k 0 → g ≡ At b → placeOf g ≡ earliestOf i j e ns (k + 1)
+      turn-stays l q =
+          place-at g b q ∙ sym (earliest-stays i j e ns k b (speaks k h) had (time-order-not (getD ns k 0) (getD ns b 0) alike l))
 
 pub search-start : (ns : List ℕ) (key : ℕ) → placeOf Nothing ≡ earliestOf (source key) (destination key) (entry key) ns 0
 search-start ns key = place-none Nothing refl ∙ sym (earliest-start (source key) (destination key) (entry key) ns)

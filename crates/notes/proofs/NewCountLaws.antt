@@ -8,7 +8,8 @@ use Prim.Native.Nat.{ℕ, zero, suc, _+_, _*_, _≤_, _<_}
 use native.Mathlib.Nat.{add-zero, zero-add, add-assoc}
 use native.Mathlib.Numerals.{add-one}
 use native.Mathlib.Omega.{arith}
-use lib.ListN.{length}
+use lib.ListN.{length, take}
+use lib.Seq.{length-take-le}
 use borrow.Author.Tests.{eqb-true}
 use Rattle.sets.specs.Counting.{bit, count}
 use Rattle.sets.proofs.CountLaws.{count-zero, count-step}
@@ -148,3 +149,13 @@ counts-broadcasts test t i n (suc e) h =
 pub count-broadcasts : (ns : List ℕ) (test : ℕ → Bool) (t i n u : ℕ) → u ≤ 256
     → length (postAll ns (broadcasts test t i n u)) ≡ length ns + newCount ns (broadcasts test t i n u)
 count-broadcasts ns test t i n u h = counts-broadcasts test t i n u h ns
+
+-- ---- how many wait after posting: new is what was counted
+
+module _ (w : ℕ) (area : List ℕ) (h : w ≤ length area) (new : ℕ) where
+  pub after-broadcast : (t i e n : ℕ) → new ≡ newCount (take w area) (broadcast t i e n) → length (postAll (take w area) (broadcast t i e n)) ≡ w + new
+  after-broadcast t i e n c = count-broadcast (take w area) t i e n ∙ rw (length-take-le w area h, ← c)
+
+  pub after-broadcasts : (test : ℕ → Bool) (t i n u : ℕ) → u ≤ 256 → new ≡ newCount (take w area) (broadcasts test t i n u)
+      → length (postAll (take w area) (broadcasts test t i n u)) ≡ w + new
+  after-broadcasts test t i n u l c = count-broadcasts (take w area) test t i n u l ∙ rw (length-take-le w area h, ← c)

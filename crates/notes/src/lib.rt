@@ -236,9 +236,9 @@ pub fn broadcast(
 pub fn clear(area: &mut [u64])
     ensures { λ _. ⌜ now (area .exit) ≡ replicate (length (now (area .entry))) 0 ⌝ }
 {
-    let mut i = 0;
-    while i < area.len() {
-        area[i] = 0;
-        i += 1;
+    let mut at = 0;
+    while at < area.len() {
+        area[at] = 0;
+        at += 1;
     }
 }

@@ -16,7 +16,7 @@ use Rattle.sets.proofs.Tests.{or-left, or-right, or-cases, clash, decided}
 use Rattle.rules.specs.Rules.{noteOf, waits, post, postAll, broadcast, broadcasts}
 use Rattle.rules.proofs.NoteLaws.{note-to}
 use Rattle.rules.proofs.WaitLaws.{waits-none, waits-one, waits-append, Each}
-use Rattle.rules.proofs.PostLaws.{postAll-append, postAll-last, postAll-longer}
+use Rattle.rules.proofs.PostLaws.{postAll-append, postAll-last, postAll-grows, postAll-longer}
 
 -- ---- one entry, to destinations 0 to n - 1
 
@@ -84,6 +84,10 @@ module _ (t i e : ℕ) where
     pub post-broadcast-longer : (j n : ℕ) → j ≤ n → length (postAll ns (broadcast t i e j)) ≤ length (postAll ns (broadcast t i e n))
     unfolding broadcast
     post-broadcast-longer j n h = postAll-longer ns (broadcast t i e) (λ k. noteOf t i k e ∷ []) (λ k. refl) j n h
+
+    -- no more are added than it has
+    pub post-broadcast-most : (n : ℕ) → length (postAll ns (broadcast t i e n)) ≤ length ns + n
+    post-broadcast-most n = rw (length-broadcast n) at (postAll-grows ns (broadcast t i e n) .1)
 
 -- ---- the entries below u that pass a test, in rising order
 
@@ -179,3 +183,6 @@ module _ (test : ℕ → Bool) (t i n : ℕ) where
     pub post-broadcasts-longer : (e u : ℕ) → e ≤ u → length (postAll ns (broadcasts test t i n e)) ≤ length (postAll ns (broadcasts test t i n u))
     unfolding broadcasts
     post-broadcasts-longer e u h = postAll-longer ns (broadcasts test t i n) (λ k. cond (test k) (broadcast t i k n) []) (λ k. refl) e u h
+
+    pub post-broadcasts-most : (u : ℕ) → length (postAll ns (broadcasts test t i n u)) ≤ length ns + count test u * n
+    post-broadcasts-most u = rw (length-broadcasts u) at (postAll-grows ns (broadcasts test t i n u) .1)
