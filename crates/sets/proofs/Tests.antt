@@ -7,6 +7,10 @@ use Prim.Native.Nat.{ℕ, _≤_, _<_}
 use lib.Dec.{leb}
 use borrow.Author.Tests.{leb-true, leb-false, not-true, not-false}
 
+-- A promise `result ≡ definition` allows one result.
+pub one-result : {A : Type 0} {x y definition : A} → x ≡ definition → y ≡ definition → x ≡ y
+one-result p q = p ∙ sym q
+
 pub clash : {A : Type 0} (b : Bool) → b ≡ true → b ≡ false → A
 clash b t f = absurd (true≢false (sym t ∙ f))
 

@@ -1,0 +1,7 @@
+pub mod AreaLaws
+pub mod RoomLaws
+pub mod NewCountLaws
+pub mod ScanLaws
+pub mod FoundLaws
+pub mod GapLaws
+pub mod ReachLaws
