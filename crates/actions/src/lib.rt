@@ -1,0 +1,2 @@
+// One action on a floor: the shape check, opening, and the step that every run is made of.
+pub mod head;
