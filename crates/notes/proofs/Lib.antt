@@ -4,4 +4,5 @@ pub mod NewCountLaws
 pub mod ScanLaws
 pub mod FoundLaws
 pub mod GapLaws
+pub mod ReceiveLaws
 pub mod ReachLaws

@@ -14,7 +14,7 @@ use borrow.Author.Tests.{eqb-true}
 use Rattle.sets.specs.Counting.{bit, count}
 use Rattle.sets.proofs.CountLaws.{count-zero, count-step}
 use Rattle.sets.proofs.Tests.{clash, decided}
-use Rattle.rules.specs.Rules.{noteOf, entry, waits, postAll, broadcast, broadcasts}
+use Rattle.rules.specs.Rules.{noteOf, entry, waits, post, postAll, broadcast, broadcasts}
 use Rattle.rules.proofs.NoteLaws.{entry-note}
 use Rattle.rules.proofs.WaitLaws.{waits-one, waits-here, waits-there, Each, each-none}
 use Rattle.rules.proofs.PostLaws.{length-post, postAll-none, postAll-one, postAll-append, waits-postAll}
@@ -150,8 +150,13 @@ pub count-broadcasts : (ns : List ℕ) (test : ℕ → Bool) (t i n u : ℕ) →
     → length (postAll ns (broadcasts test t i n u)) ≡ length ns + newCount ns (broadcasts test t i n u)
 count-broadcasts ns test t i n u h = counts-broadcasts test t i n u h ns
 
--- ---- how many wait after posting: new is what was counted
+-- ---- how many wait after posting
 
+-- b is what `waits` answered
+pub after-post : (w : ℕ) (area : List ℕ) → w ≤ length area → (x : ℕ) (b : Bool) → b ≡ waits (take w area) x → length (post (take w area) x) ≡ w + cond b 0 1
+after-post w area h x b known = length-post (take w area) x ∙ rw (length-take-le w area h, ← known)
+
+-- new is what was counted
 module _ (w : ℕ) (area : List ℕ) (h : w ≤ length area) (new : ℕ) where
   pub after-broadcast : (t i e n : ℕ) → new ≡ newCount (take w area) (broadcast t i e n) → length (postAll (take w area) (broadcast t i e n)) ≡ w + new
   after-broadcast t i e n c = count-broadcast (take w area) t i e n ∙ rw (length-take-le w area h, ← c)

@@ -101,13 +101,15 @@ module _ (test : ℕ → Bool) (w : ℕ) (area : List ℕ) (t i n e : ℕ) (left
       room-less _ (postAll (take w area) (broadcasts test t i n u)) w area (post-broadcasts-longer test t i n (take w area) (e + 1) u (omega arith)) r in
       more-room w area (broadcasts test t i n e) (broadcast t i e n) left count H (rw (broadcasts-due test t i n e d) at next)
 
-  pub due-holds : w ≤ length area → test e ≡ true → (last : List ℕ) (m : ℕ) → Holds (postAll (take count left) (broadcast t i e n)) count left last m
+  -- last and m are what stands in the area and in the count after the turn
+  pub due-holds : w ≤ length area → test e ≡ true → (last last′ : List ℕ) (m m′ : ℕ)
+      → Holds (postAll (take count left) (broadcast t i e n)) count left last′ m′ → last ≡ last′ → m ≡ m′
       → Holds (postAll (take w area) (broadcasts test t i n (e + 1))) w area last m
-  due-holds h d last m K =
-      rw (broadcasts-due test t i n e d) (more-holds w area (broadcasts test t i n e) (broadcast t i e n) left count H h last m K)
+  due-holds h d last last′ m m′ K p q =
+      rw (broadcasts-due test t i n e d, p, q) (more-holds w area (broadcasts test t i n e) (broadcast t i e n) left count H h last′ m′ K)
 
-  pub not-due-holds : test e ≡ false → Holds (postAll (take w area) (broadcasts test t i n (e + 1))) w area left count
-  not-due-holds d = rw (broadcasts-not test t i n e d) H
+  pub not-due-holds : test e ≡ false → (last : List ℕ) (m : ℕ) → last ≡ left → m ≡ count → Holds (postAll (take w area) (broadcasts test t i n (e + 1))) w area last m
+  not-due-holds d last m p q = rw (broadcasts-not test t i n e d, p, q) H
 
 -- before the first
 pub none-posted : (w : ℕ) (area xs : List ℕ) → xs ≡ [] → w ≤ length area → Holds (postAll (take w area) xs) w area area w

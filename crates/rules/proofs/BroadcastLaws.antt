@@ -131,15 +131,15 @@ module _ (test : ℕ → Bool) (t i n : ℕ) where
       (eq-or-lt-of-le (le-of-suc-le-suc h))
 
   -- a note of the entries below u: its entry, its destination, and what is known of them
-  pub record Of (u x : ℕ) : Type 0 where
-    pub ofEntry : ℕ
-    pub ofDesk : ℕ
-    pub entryBelow : ofEntry < u
-    pub deskBelow : ofDesk < n
-    pub isDue : test ofEntry ≡ true
-    pub isNote : x ≡ noteOf t i ofDesk ofEntry
+  pub record DueNote (u x : ℕ) : Type 0 where
+    pub entryNo : ℕ
+    pub deskNo : ℕ
+    pub entryBelow : entryNo < u
+    pub deskBelow : deskNo < n
+    pub isDue : test entryNo ≡ true
+    pub isNote : x ≡ noteOf t i deskNo entryNo
 
-  pub broadcasts-only : (u x : ℕ) → waits (broadcasts test t i n u) x ≡ true → Of u x
+  pub broadcasts-only : (u x : ℕ) → waits (broadcasts test t i n u) x ≡ true → DueNote u x
   unfolding broadcasts
   broadcasts-only zero x w = clash (waits [] x) w (waits-none x)
   broadcasts-only (suc u) x w =
@@ -151,21 +151,21 @@ module _ (test : ℕ → Bool) (t i n : ℕ) where
       (waits (cond (test u) (broadcast t i u n) []) x)
       (sym (waits-append (broadcasts test t i n u) (cond (test u) (broadcast t i u n) []) x) ∙ w))
     where
-      up : Of u x → Of (suc u) x
-      up o = record { ofEntry = o .ofEntry; ofDesk = o .ofDesk; entryBelow = omega (arith, o .entryBelow); deskBelow = o .deskBelow; isDue = o .isDue; isNote = o .isNote }
+      up : DueNote u x → DueNote (suc u) x
+      up o = record { entryNo = o .entryNo; deskNo = o .deskNo; entryBelow = omega (arith, o .entryBelow); deskBelow = o .deskBelow; isDue = o .isDue; isNote = o .isNote }
 
-      here : test u ≡ true → (j : ℕ) × (j < n) × (x ≡ noteOf t i j u) → Of (suc u) x
-      here d (j, l, p) = record { ofEntry = u; ofDesk = j; entryBelow = omega arith; deskBelow = l; isDue = d; isNote = p }
+      here : test u ≡ true → (j : ℕ) × (j < n) × (x ≡ noteOf t i j u) → DueNote (suc u) x
+      here d (j, l, p) = record { entryNo = u; deskNo = j; entryBelow = omega arith; deskBelow = l; isDue = d; isNote = p }
 
-      last : (b : Bool) → test u ≡ b → waits (cond b (broadcast t i u n) []) x ≡ true → Of (suc u) x
+      last : (b : Bool) → test u ≡ b → waits (cond b (broadcast t i u n) []) x ≡ true → DueNote (suc u) x
       last true d v = here d (broadcast-only t i u n x v)
       last false d v = clash (waits [] x) v (waits-none x)
 
   pub each-broadcasts : (P : ℕ → Type 0) (u : ℕ) → ((e j : ℕ) → e < u → j < n → test e ≡ true → P (noteOf t i j e)) → Each P (broadcasts test t i n u)
   each-broadcasts P u h x w = of (broadcasts-only u x w)
     where
-      of : Of u x → P x
-      of o = subst P (sym (o .isNote)) (h (o .ofEntry) (o .ofDesk) (o .entryBelow) (o .deskBelow) (o .isDue))
+      of : DueNote u x → P x
+      of o = subst P (sym (o .isNote)) (h (o .entryNo) (o .deskNo) (o .entryBelow) (o .deskBelow) (o .isDue))
 
   -- posting them
   module _ (ns : List ℕ) where
