@@ -1,5 +1,5 @@
 -- Laws of the list of desks: one desk is put in the place of another, or each of the first n changes. Assumes nothing.
-use mathlib.Core.Path.{_≡_, refl, sym, ap, subst}
+use mathlib.Core.Path.{_≡_, refl, sym, ap, ap₂, subst}
 use mathlib.Core.Bool.{Bool, true, _&&_}
 use mathlib.Core.Logic.{_⊎_, inl, inr, ⊎-elim, _≢_}
 use mathlib.Core.List.{List, [], _∷_}
@@ -94,3 +94,9 @@ module _ (test : ℕ → Bool) where
   unfolding everyBelow
   each-below zero h = refl
   each-below (suc k) h = and-both (everyBelow test k) (test k) (each-below k (λ i l. h i (omega arith))) (h k (omega arith))
+
+-- tests that agree below k
+pub below-same : (p q : ℕ → Bool) (k : ℕ) → ((i : ℕ) → i < k → p i ≡ q i) → everyBelow p k ≡ everyBelow q k
+unfolding everyBelow
+below-same p q zero h = refl
+below-same p q (suc k) h = ap₂ _&&_ (below-same p q k (λ i l. h i (omega arith))) (h k (omega arith))

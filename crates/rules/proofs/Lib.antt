@@ -12,3 +12,4 @@ pub mod Effects
 pub mod DeskShapes
 pub mod Shapes
 pub mod ShapeKept
+pub mod Clauses
