@@ -1,6 +1,6 @@
 -- What a call on a floor and its note area gives: the rules' step, seen over the bridge. Assumes nothing.
 use mathlib.Core.Path.{_≡_}
-use mathlib.Core.Bool.{Bool, not, cond, _&&_}
+use mathlib.Core.Bool.{Bool, false, not, cond, _&&_}
 use mathlib.Core.List.{List, [], _∷_}
 use Prim.Native.Nat.{ℕ, _≤_}
 use lib.Dec.{eqb, leb}
@@ -106,3 +106,7 @@ pub record Ready (k : Settings) (h : Head) (room : ℕ) : Type 0 where
   pub clock : h .clock ≤ lastTick
   pub waiting : h .waiting ≤ room
   pub exact : room ≡ mostNotes
+
+-- the mark of desk i
+unfoldable pub markAt : List Bool → ℕ → Bool
+markAt faulty i = getD faulty i false
