@@ -2,7 +2,7 @@
 use mathlib.Core.Path.{_≡_}
 use mathlib.Core.Bool.{Bool, false, not, cond, _&&_}
 use mathlib.Core.List.{List, [], _∷_}
-use Prim.Native.Nat.{ℕ, _≤_}
+use Prim.Native.Nat.{ℕ, _+_, _^_, _≤_, _<_}
 use lib.Dec.{eqb, leb}
 use lib.ListN.{length, getD, replicate}
 use Rattle.rules.specs.Rules as rules
@@ -110,3 +110,15 @@ pub record Ready (k : Settings) (h : Head) (room : ℕ) : Type 0 where
 -- the mark of desk i
 unfoldable pub markAt : List Bool → ℕ → Bool
 markAt faulty i = getD faulty i false
+
+-- a timer t ticks later
+abbrev pub laterBy : ℕ → ℕ → ℕ
+laterBy t timer = timer + t
+
+-- the timers at place i may go on by t
+unfoldable pub timersFit : ℕ → ℕ → ℕ → List ℕ → List ℕ → ℕ → Bool
+timersFit p a t passTimers acceptTimers i = leb (getD passTimers i 0 + t) p && leb (getD acceptTimers i 0 + t) a
+
+-- t more ticks fit each of the first n timers' words
+abbrev pub TimersFit : ℕ → ℕ → List ℕ → Type 0
+TimersFit n t timers = (i : ℕ) → i < n → getD timers i 0 + t < 2 ^ 32
