@@ -1,6 +1,7 @@
 pub mod AreaLaws
 pub mod RoomLaws
 pub mod NewCountLaws
+pub mod PostingLaws
 pub mod ScanLaws
 pub mod FoundLaws
 pub mod GapLaws

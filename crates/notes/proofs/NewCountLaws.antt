@@ -5,20 +5,21 @@ use mathlib.Core.Bool.{Bool, true, false, not, cond, or-false}
 use mathlib.Core.Logic.{⊎-elim}
 use mathlib.Core.List.{List, [], _∷_, _++_}
 use Prim.Native.Nat.{ℕ, zero, suc, _+_, _*_, _≤_, _<_}
-use native.Mathlib.Nat.{add-zero, zero-add, add-assoc}
+use native.Mathlib.Nat.{add-zero, zero-add, add-assoc, le-trans, mul-le-mul-right}
 use native.Mathlib.Numerals.{add-one}
 use native.Mathlib.Omega.{arith}
 use lib.ListN.{length, take}
 use lib.Seq.{length-take-le}
 use borrow.Author.Tests.{eqb-true}
 use Rattle.sets.specs.Counting.{bit, count}
-use Rattle.sets.proofs.CountLaws.{count-zero, count-step}
+use Rattle.sets.specs.Sets.{member, size}
+use Rattle.sets.proofs.CountLaws.{count-zero, count-step, count-longer}
 use Rattle.sets.proofs.Tests.{clash, decided}
 use Rattle.rules.specs.Rules.{noteOf, entry, waits, post, postAll, broadcast, broadcasts}
 use Rattle.rules.proofs.NoteLaws.{entry-note}
 use Rattle.rules.proofs.WaitLaws.{waits-one, waits-here, waits-there, Each, each-none}
 use Rattle.rules.proofs.PostLaws.{length-post, postAll-none, postAll-one, postAll-append, waits-postAll}
-use Rattle.rules.proofs.BroadcastLaws.{broadcast-none, broadcast-more, broadcast-next, length-broadcast, each-broadcast, broadcasts-none, broadcasts-more, broadcasts-due, broadcasts-not, length-broadcasts, each-broadcasts}
+use Rattle.rules.proofs.BroadcastLaws.{broadcast-none, broadcast-more, broadcast-next, length-broadcast, each-broadcast, broadcasts-none, broadcasts-more, length-broadcasts, each-broadcasts}
 use Rattle.notes.specs.Area.{newCount}
 
 module _ (ns : List ℕ) where
@@ -50,6 +51,11 @@ module _ (ns : List ℕ) where
   pub new-broadcasts-le : (test : ℕ → Bool) (t i n u : ℕ) → newCount ns (broadcasts test t i n u) ≤ count test u * n
   new-broadcasts-le test t i n u = rw (length-broadcasts test t i n u) at (newCount-le (broadcasts test t i n u))
 
+  -- the entries below u that are in a set, each at most once
+  pub new-in-set-le : (es t i n u : ℕ) → u ≤ 64 → newCount ns (broadcasts (member es) t i n u) ≤ size 64 es * n
+  new-in-set-le es t i n u h =
+      le-trans (new-broadcasts-le (member es) t i n u) (mul-le-mul-right n (count-longer (member es) u 64 h))
+
   -- one destination more
   pub new-broadcast-none : (t i e : ℕ) → newCount ns (broadcast t i e 0) ≡ 0
   new-broadcast-none t i e = rw (broadcast-none t i e) newCount-none
@@ -73,13 +79,23 @@ module _ (ns : List ℕ) where
   pub new-broadcasts-none : (test : ℕ → Bool) (t i n : ℕ) → newCount ns (broadcasts test t i n 0) ≡ 0
   new-broadcasts-none test t i n = rw (broadcasts-none test t i n) newCount-none
 
-  pub new-broadcasts-due : (test : ℕ → Bool) (t i n e : ℕ) → test e ≡ true
-      → newCount ns (broadcasts test t i n (e + 1)) ≡ newCount ns (broadcasts test t i n e) + newCount ns (broadcast t i e n)
-  new-broadcasts-due test t i n e d =
-      rw (broadcasts-due test t i n e d) (newCount-append (broadcasts test t i n e) (broadcast t i e n))
+  pub new-broadcasts-more : (test : ℕ → Bool) (t i n e : ℕ)
+      → newCount ns (broadcasts test t i n (e + 1)) ≡ newCount ns (broadcasts test t i n e) + newCount ns (cond (test e) (broadcast t i e n) [])
+  new-broadcasts-more test t i n e =
+      rw (broadcasts-more test t i n e) (newCount-append (broadcasts test t i n e) (cond (test e) (broadcast t i e n) []))
 
-  pub new-broadcasts-not : (test : ℕ → Bool) (t i n e : ℕ) → test e ≡ false → newCount ns (broadcasts test t i n (e + 1)) ≡ newCount ns (broadcasts test t i n e)
-  new-broadcasts-not test t i n e d = rw (broadcasts-not test t i n e d)
+-- a turn of the count of several entries: new is what was counted of entry e
+module _ (ns : List ℕ) (test : ℕ → Bool) (t i n e count new : ℕ) (inv : count ≡ newCount ns (broadcasts test t i n e))
+    (c : new ≡ newCount ns (cond (test e) (broadcast t i e n) [])) where
+  pub entry-few : new ≤ n
+  entry-few = rw c (most (test e))
+    where
+      most : (b : Bool) → newCount ns (cond b (broadcast t i e n) []) ≤ n
+      most true = new-broadcast-le ns t i e n
+      most false = omega (arith, newCount-none ns)
+
+  pub entry-counts : count + new ≡ newCount ns (broadcasts test t i n (e + 1))
+  entry-counts = rw (inv, c) (sym (new-broadcasts-more ns test t i n e))
 
 -- ---- a list of unequal notes: posting it anywhere adds as many as do not wait
 
@@ -155,12 +171,3 @@ count-broadcasts ns test t i n u h = counts-broadcasts test t i n u h ns
 -- b is what `waits` answered
 pub after-post : (w : ℕ) (area : List ℕ) → w ≤ length area → (x : ℕ) (b : Bool) → b ≡ waits (take w area) x → length (post (take w area) x) ≡ w + cond b 0 1
 after-post w area h x b known = length-post (take w area) x ∙ rw (length-take-le w area h, ← known)
-
--- new is what was counted
-module _ (w : ℕ) (area : List ℕ) (h : w ≤ length area) (new : ℕ) where
-  pub after-broadcast : (t i e n : ℕ) → new ≡ newCount (take w area) (broadcast t i e n) → length (postAll (take w area) (broadcast t i e n)) ≡ w + new
-  after-broadcast t i e n c = count-broadcast (take w area) t i e n ∙ rw (length-take-le w area h, ← c)
-
-  pub after-broadcasts : (test : ℕ → Bool) (t i n u : ℕ) → u ≤ 256 → new ≡ newCount (take w area) (broadcasts test t i n u)
-      → length (postAll (take w area) (broadcasts test t i n u)) ≡ w + new
-  after-broadcasts test t i n u l c = count-broadcasts (take w area) test t i n u l ∙ rw (length-take-le w area h, ← c)

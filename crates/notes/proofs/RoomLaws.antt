@@ -1,7 +1,7 @@
 -- Posting into the area: one note, a list after a list, and the turns of a broadcast and of the broadcasts of several entries.
 -- Assumes nothing.
 use mathlib.Core.Path.{_≡_, sym, _∙_}
-use mathlib.Core.Bool.{Bool, true, false, or-false}
+use mathlib.Core.Bool.{Bool, true, false, cond, or-false}
 use mathlib.Core.List.{List, [], _∷_, _++_}
 use Prim.Native.Nat.{ℕ, suc, _+_, _≤_, _<_}
 use native.Mathlib.Nat.{le-trans}
@@ -11,7 +11,7 @@ use lib.ListN.{length, take, drop, set, length-append}
 use lib.Seq.{length-take-le, set-split, append-snoc}
 use Rattle.rules.specs.Rules.{noteOf, waits, post, postAll, broadcast, broadcasts}
 use Rattle.rules.proofs.PostLaws.{post-old, post-new, postAll-none, postAll-one, postAll-append, postAll-grows, waits-postAll}
-use Rattle.rules.proofs.BroadcastLaws.{broadcast-next, broadcast-more, post-broadcast-longer, broadcasts-due, broadcasts-not, post-broadcasts-longer}
+use Rattle.rules.proofs.BroadcastLaws.{broadcast-next, broadcast-more, post-broadcast-longer, broadcasts-more, post-broadcasts-longer}
 use Rattle.notes.specs.Area.{Holds, Room}
 use Rattle.notes.proofs.AreaLaws.{laid-grown, holds-same, holds-notes, holds-length, holds-then}
 
@@ -91,25 +91,21 @@ module _ (w : ℕ) (area : List ℕ) (t i e j : ℕ) (left : List ℕ) (count : 
       rw (broadcast-more t i e j)
       (more-holds w area (broadcast t i e j) (noteOf t i j e ∷ []) left count H h last n (rw (← postAll-one (take count left) (noteOf t i j e)) at K))
 
--- ---- a turn of the broadcasts of several entries: entry e is next
+-- ---- a turn of the broadcasts of several entries: entry e is next, and is broadcast where it passes the test
 module _ (test : ℕ → Bool) (w : ℕ) (area : List ℕ) (t i n e : ℕ) (left : List ℕ) (count : ℕ)
     (H : Holds (postAll (take w area) (broadcasts test t i n e)) w area left count) where
-  pub due-room : (u : ℕ) → e < u → test e ≡ true → Room (postAll (take w area) (broadcasts test t i n u)) w area
-      → Room (postAll (take count left) (broadcast t i e n)) count left
-  due-room u l d r =
+  pub entry-room : (u : ℕ) → e < u → Room (postAll (take w area) (broadcasts test t i n u)) w area
+      → Room (postAll (take count left) (cond (test e) (broadcast t i e n) [])) count left
+  entry-room u l r =
       let next : Room (postAll (take w area) (broadcasts test t i n (e + 1))) w area =
       room-less _ (postAll (take w area) (broadcasts test t i n u)) w area (post-broadcasts-longer test t i n (take w area) (e + 1) u (omega arith)) r in
-      more-room w area (broadcasts test t i n e) (broadcast t i e n) left count H (rw (broadcasts-due test t i n e d) at next)
+      more-room w area (broadcasts test t i n e) (cond (test e) (broadcast t i e n) []) left count H (rw (broadcasts-more test t i n e) at next)
 
-  -- last and m are what stands in the area and in the count after the turn
-  pub due-holds : w ≤ length area → test e ≡ true → (last last′ : List ℕ) (m m′ : ℕ)
-      → Holds (postAll (take count left) (broadcast t i e n)) count left last′ m′ → last ≡ last′ → m ≡ m′
+  pub entry-holds : w ≤ length area → (last : List ℕ) (m : ℕ) → Holds (postAll (take count left) (cond (test e) (broadcast t i e n) [])) count left last m
       → Holds (postAll (take w area) (broadcasts test t i n (e + 1))) w area last m
-  due-holds h d last last′ m m′ K p q =
-      rw (broadcasts-due test t i n e d, p, q) (more-holds w area (broadcasts test t i n e) (broadcast t i e n) left count H h last′ m′ K)
-
-  pub not-due-holds : test e ≡ false → (last : List ℕ) (m : ℕ) → last ≡ left → m ≡ count → Holds (postAll (take w area) (broadcasts test t i n (e + 1))) w area last m
-  not-due-holds d last m p q = rw (broadcasts-not test t i n e d, p, q) H
+  entry-holds h last m K =
+      rw (broadcasts-more test t i n e)
+      (more-holds w area (broadcasts test t i n e) (cond (test e) (broadcast t i e n) []) left count H h last m K)
 
 -- before the first
 pub none-posted : (w : ℕ) (area xs : List ℕ) → xs ≡ [] → w ≤ length area → Holds (postAll (take w area) xs) w area area w

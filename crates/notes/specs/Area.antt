@@ -3,8 +3,9 @@ use mathlib.Core.Path.{_≡_}
 use mathlib.Core.Bool.{cond}
 use mathlib.Core.List.{List, [], _∷_, _++_}
 use Prim.Native.Nat.{ℕ, _+_, _-_, _≤_, max}
-use lib.ListN.{length, drop, replicate}
-use Rattle.rules.specs.Rules.{Settings, Place, at, none, waits}
+use lib.Dec.{leb}
+use lib.ListN.{length, take, drop, replicate}
+use Rattle.rules.specs.Rules.{Settings, Place, at, none, waits, postAll}
 use Rattle.notes.specs.declared.Found.{Found}
 use Rattle.notes.specs.declared.Found.the-variants.{At, Nothing}
 
@@ -22,6 +23,12 @@ pub record Holds (ns : List ℕ) (w : ℕ) (area left : List ℕ) (count : ℕ) 
 pub record Room (ns : List ℕ) (w : ℕ) (area : List ℕ) : Type 0 where
   pub stand : w ≤ length area
   pub fit : length ns ≤ length area
+
+-- what an action that posts the notes xs leaves of an area in which w notes wait: how many would wait after it, and the whole area, which
+-- stays as it was where they have no room: "notes waiting + new unequal notes > 2,048"
+pub record Posts (xs : List ℕ) (w : ℕ) (area left : List ℕ) (count : ℕ) : Type 0 where
+  pub counted : count ≡ length (postAll (take w area) xs)
+  pub whole : left ≡ cond (leb (length (postAll (take w area) xs)) (length area)) (laid w area (postAll (take w area) xs)) area
 
 -- "The search for the earliest matching note ends with its place or with none"
 unfoldable pub placeOf : Found → Place

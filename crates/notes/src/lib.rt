@@ -1,6 +1,9 @@
 // The waiting notes: numbers in the front of a lent area, in order of posting. What only reads is lent the
 // waiting notes themselves, `&area[..waiting]`; what changes the area is lent all of it, with how many wait,
-// and answers how many wait then. Nothing here knows how long the area is: its callers see to the room.
+// and answers how many wait then. Nothing in this file knows how long the area is: its callers see to the
+// room, as `posting` does.
+pub mod posting;
+
 use sets::DeskNo;
 use sets::EntryNo;
 ghost use mathlib.Core.Path.{_≡_};

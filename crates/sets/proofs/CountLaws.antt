@@ -1,7 +1,7 @@
 -- Laws of `count`, for any tests and any number. Every law of sizes is one of these; nobody else unfolds `count`. Assumes nothing.
 use mathlib.Core.Path.{_≡_, refl, sym, ap, ap₂, _∙_, subst}
 use mathlib.Core.Bool.{Bool, true, false, not, _&&_, _||_}
-use mathlib.Core.Logic.{_⊎_, inl, inr, _≢_}
+use mathlib.Core.Logic.{_⊎_, inl, inr, ⊎-elim, _≢_}
 use Prim.Native.Nat.{ℕ, zero, suc, _+_, _≤_, _<_, zero-le}
 use native.Mathlib.Nat.{le-refl, le-suc, lt-of-lt-of-le, le-of-suc-le-suc, not-suc-le-zero, eq-or-lt-of-le, lt-irrefl, zero-add, suc-add}
 use native.Mathlib.Numerals.{add-one}
@@ -63,6 +63,15 @@ pub count-le : (f : ℕ → Bool) (k : ℕ) → count f k ≤ k
 unfolding count
 count-le f zero = zero-le
 count-le f (suc k) = omega (arith, bit-le (f k), count-le f k)
+
+-- looking at more numbers counts no fewer
+pub count-longer : (f : ℕ → Bool) (k m : ℕ) → k ≤ m → count f k ≤ count f m
+unfolding count
+count-longer f k zero h =
+    let e : k ≡ 0 = omega arith in
+    rw e (le-refl _)
+count-longer f k (suc m) h =
+    ⊎-elim (λ e. rw e (le-refl _)) (λ l. omega (arith, count-longer f k m (le-of-suc-le-suc l))) (eq-or-lt-of-le h)
 
 -- the lowest number apart
 pub count-low : (f : ℕ → Bool) (k : ℕ) → count f (suc k) ≡ bit (f 0) + count (λ i. f (suc i)) k
