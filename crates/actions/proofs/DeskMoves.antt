@@ -48,7 +48,7 @@ module _ (fl : Floor) (sized : Sized fl) (area : List ℕ) (w : fl .waiting ≤ 
   s = stateOf fl area
 
   -- desk j changes and the notes are ns: the arrays, place by place
-  turned : (change : Desk → Desk) (ns : List ℕ) → floorOf (withDesk (withNotes s ns) j (change (deskAt s j))) ≡
+  pub turned : (change : Desk → Desk) (ns : List ℕ) → floorOf (withDesk (withNotes s ns) j (change (deskAt s j))) ≡
       floor (fl .settings) (fl .clock) (length ns) (set (fl .faulty) j (change (deskOf fl j) .faulty)) (set (fl .pass) j (change (deskOf fl j) .pass))
       (set (fl .accept) j (change (deskOf fl j) .accept)) (set (fl .listed) j (change (deskOf fl j) .listed)) (set (fl .sent) j (change (deskOf fl j) .sent))
       (Rattle.floors.specs.Bridge.joined (set (Rattle.floors.specs.Bridge.tabulate 16 (rowOf 64 (fl .received))) j (change (deskOf fl j) .received)))

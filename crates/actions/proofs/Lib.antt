@@ -1,3 +1,4 @@
 pub mod Steps
 pub mod DeskMoves
 pub mod DelayMove
+pub mod SendingMoves

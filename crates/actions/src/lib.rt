@@ -2,3 +2,4 @@
 pub mod head;
 pub mod desks;
 pub mod delay;
+pub mod sending;
