@@ -12,3 +12,5 @@ pub mod Effects
 pub mod DeskShapes
 pub mod Shapes
 pub mod ShapeKept
+pub mod TimerLaws
+pub mod Travels
