@@ -1,1 +1,3 @@
 pub mod Spread
+pub mod RulesLaws
+pub mod Demand3

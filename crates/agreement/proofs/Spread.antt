@@ -14,9 +14,9 @@ use Rattle.sets.proofs.CountLaws.{count-mono}
 use Rattle.agreement.specs.View.{View, after, announcers}
 use Rattle.agreement.specs.Laws.{Laws}
 
-module _ (v : View) (n f M P A : ℕ) (laws : Laws v n f M P A) where
+module _ (v : View) (n f M P A : ℕ) (Good : v .State → Type 0) (laws : Laws v n f M P A Good) where
   open View v using (State, Act, next, clock, passTimer, acceptTimer, Live, has, Note, Sent, Listed, announces)
-  open Laws laws using (Good, keeps, clock-up, pass-le, accept-le, note-ahead, live-before, has-stays, listed-stays, note-stays, sent-covers, announced, passes, accepts)
+  open Laws laws using (keeps, clock-up, pass-le, accept-le, note-ahead, live-before, has-stays, listed-stays, note-stays, sent-covers, announced, passes, accepts)
 
   -- ---- one desk's notes
 

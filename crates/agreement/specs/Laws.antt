@@ -1,5 +1,6 @@
 -- What the proof of demand 3 asks of a floor: laws of its states and of one act, over n desks with f faults and the times M, P and A.
--- They are asked of live desks only, and of states with any invariant `Good`. docs/WAIT.md says which step uses which. Assumes nothing.
+-- They are asked of live desks only, in states with an invariant `Good` that each act keeps; any will do. docs/WAIT.md says which step uses
+-- which law. Assumes nothing.
 use mathlib.Core.Path.{_≡_}
 use mathlib.Core.Bool.{true}
 use mathlib.Core.Logic.{_⊎_}
@@ -10,8 +11,7 @@ use Rattle.agreement.specs.View.{View}
 module _ (v : View) (n f M P A : ℕ) where
   open View v using (State, Act, next, clock, passTimer, acceptTimer, Live, has, Note, Sent, Listed, announces)
 
-  pub record Laws : Type 1 where
-    pub Good : State → Type 0
+  pub record Laws (Good : State → Type 0) : Type 0 where
     pub keeps : (s : State) (a : Act) → Good s → Good (next s a)
     -- time: the clock does not go back, timers are bounded, and a note's time-out is not past
     pub clock-up : (s : State) (a : Act) → Good s → clock s ≤ clock (next s a)

@@ -1,7 +1,7 @@
 -- Laws of `count`, for any tests and any number. Every law of sizes is one of these; nobody else unfolds `count`. Assumes nothing.
 use mathlib.Core.Path.{_≡_, refl, sym, ap, ap₂, _∙_, subst}
 use mathlib.Core.Bool.{Bool, true, false, not, _&&_, _||_}
-use mathlib.Core.Logic.{_⊎_, inl, inr, _≢_}
+use mathlib.Core.Logic.{_⊎_, inl, inr, ⊎-elim, _≢_}
 use Prim.Native.Nat.{ℕ, zero, suc, _+_, _≤_, _<_, zero-le}
 use native.Mathlib.Nat.{le-refl, le-suc, lt-of-lt-of-le, le-of-suc-le-suc, not-suc-le-zero, eq-or-lt-of-le, lt-irrefl, zero-add, suc-add}
 use native.Mathlib.Numerals.{add-one}
@@ -143,6 +143,14 @@ pub count-not : (f : ℕ → Bool) (k : ℕ) → count f k + count (λ i. not (f
 unfolding count
 count-not f zero = refl
 count-not f (suc k) = omega (arith, bit-not (f k), count-not f k)
+
+-- looking at more numbers counts no fewer
+pub count-longer : (f : ℕ → Bool) (n k : ℕ) → n ≤ k → count f n ≤ count f k
+unfolding count
+count-longer f n zero h =
+    let none : n ≡ 0 = omega arith in
+    rw none (le-refl _)
+count-longer f n (suc k) h = ⊎-elim (λ e. rw e (le-refl _)) (λ l. omega (arith, count-longer f n k (le-of-suc-le-suc l))) (eq-or-lt-of-le h)
 
 -- the numbers from n on are not taken, so looking at more of them counts no more
 pub count-wider : (f : ℕ → Bool) (n d : ℕ) → ((i : ℕ) → n ≤ i → f i ≡ false) → count f (d + n) ≡ count f n
