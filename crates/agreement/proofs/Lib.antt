@@ -1,3 +1,5 @@
 pub mod Spread
 pub mod RulesLaws
 pub mod Demand3
+pub mod AfterLaws
+pub mod Edges
