@@ -1,7 +1,7 @@
 -- K14 on the small floor, where T + 2M + P + A is 10 for T = 0: the wait is enough, and one tick less is not. Assumes nothing.
 use mathlib.Core.Path.{refl, ap}
 use mathlib.Core.List.{List}
-use Prim.Native.Nat.{ℕ, _≤_, _<_}
+use Prim.Native.Nat.{_≤_, _<_}
 use native.Mathlib.Omega.{arith}
 use Rattle.sets.proofs.Tests.{clash}
 use Rattle.rules.specs.Rules.{Move, withinLimits}

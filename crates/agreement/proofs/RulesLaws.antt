@@ -1,9 +1,8 @@
 -- The rules have the laws that demand 3 asks for, for every entry below U. Assumes nothing.
 use mathlib.Core.Path.{_≡_, refl, sym, ap, _∙_, subst}
-use mathlib.Core.Bool.{Bool, true, false, _&&_, false≢true}
+use mathlib.Core.Bool.{Bool, true, false≢true}
 use mathlib.Core.Logic.{_⊎_, inl, inr, ⊎-elim}
-use mathlib.Core.List.{List, [], _∷_}
-use Prim.Native.Nat.{ℕ, _+_, _-_, _≤_, _<_}
+use Prim.Native.Nat.{ℕ, _+_, _≤_, _<_}
 use native.Mathlib.Nat.{le-trans}
 use native.Mathlib.Omega.{arith}
 use lib.Dec.{eqb}
@@ -14,7 +13,7 @@ use Rattle.sets.specs.Sets.{member, size}
 use Rattle.sets.proofs.Tests.{clash, decided, and-left, and-right}
 use Rattle.sets.proofs.CountLaws.{count-longer}
 use Rattle.sets.proofs.Quorum.{reaches}
-use Rattle.rules.specs.Rules.{Settings, Desk, State, withinLimits, fresh, deskAt, sources, isSent, waits, speaksOf, noteOf, newTimeOut, timeOut, source, destination, entry, noteInShape, answer, next, effect, checks, faults, ripe}
+use Rattle.rules.specs.Rules.{Settings, Desk, State, withinLimits, fresh, deskAt, sources, isSent, waits, noteOf, newTimeOut, source, destination, entry, noteInShape, answer, next, effect, checks}
 use Rattle.rules.specs.Rules.{Move, delay, announce, passOn, accept, receive, crash, resetTimers, falseNote, unknown}
 use Rattle.rules.proofs.CheckLaws.{Passed, carried-out, next-carried-out, next-keeps, announce-below}
 use Rattle.rules.proofs.NoteLaws.{speaks-parts, speaks-note, time-note}

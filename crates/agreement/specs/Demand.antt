@@ -2,8 +2,8 @@
 -- have carried out an announcement of one entry by clock T, then in every state whose clock is later than T+2M+P+A every desk not faulty in
 -- that state has the entry on its list." The theorem is `demand-3` of proofs/Demand3.antt. Assumes nothing.
 use mathlib.Core.Path.{_≡_}
-use mathlib.Core.Bool.{Bool, true, false, cond, _&&_}
-use mathlib.Core.List.{List, [], _∷_}
+use mathlib.Core.Bool.{Bool, true, false, _&&_}
+use mathlib.Core.List.{List}
 use Prim.Native.Nat.{ℕ, _+_, _*_, _≤_, _<_}
 use lib.Dec.{eqb}
 use Rattle.sets.specs.Counting.{count}

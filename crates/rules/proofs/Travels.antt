@@ -6,7 +6,7 @@ use mathlib.Core.Logic.{_⊎_, inl, inr, ⊎-elim}
 use Prim.Native.Nat.{ℕ, _+_, _-_, _≤_, _<_}
 use native.Mathlib.Omega.{arith}
 use lib.Dec.{leb}
-use lib.ListN.{length, getD}
+use lib.ListN.{length}
 use lib.Seq.{getD-set-same}
 use borrow.Author.Tests.{le-leb}
 use Rattle.sets.specs.Sets.{member, insert, size}
@@ -14,7 +14,7 @@ use Rattle.sets.proofs.Tests.{and-both, decided}
 use Rattle.sets.proofs.MemberLaws.{insert-same, insert-cases}
 use Rattle.sets.proofs.InsertAllLaws.{insertAll-keeps, insertAll-puts, insertAll-cases}
 use Rattle.rules.specs.Rules.{Settings, Desk, State, noDesk, deskAt, sources, withDesk, noteOf, source, destination, entry, waits, broadcast, broadcasts, newTimeOut}
-use Rattle.rules.specs.Rules.{timed, later, isSent, withSent, due, passing, ripe, accepting, earliest, takenOut, hearing, crashed, speaksOf}
+use Rattle.rules.specs.Rules.{timed, later, isSent, withSent, due, passing, ripe, accepting, hearing, crashed}
 use Rattle.rules.specs.Rules.{Move, delay, announce, passOn, accept, receive, crash, resetTimers, falseNote, unknown, effect, checks}
 use Rattle.rules.proofs.CheckLaws.{Passed, below-passed}
 use Rattle.rules.proofs.NoteLaws.{speaks-parts}
