@@ -2,17 +2,31 @@
 use mathlib.Core.Path.{_≡_}
 use mathlib.Core.Bool.{Bool, true, _&&_, false≢true}
 use mathlib.Core.Logic.{_⊎_, inl, inr, ⊎-elim}
-use mathlib.Core.List.{List, [], _∷_}
+use mathlib.Core.List.{List, [], _∷_, _++_}
 use Prim.Native.Nat.{ℕ, _+_, _*_, _≤_, _<_}
 use native.Mathlib.Nat.{le-trans}
 use native.Mathlib.Omega.{arith}
 use lib.Dec.{leb}
 use borrow.Author.Tests.{leb-true}
 use Rattle.sets.specs.Counting.{count}
-use Rattle.sets.proofs.Tests.{and-left, and-right, or-cases, le-or-lt}
+use Rattle.sets.proofs.Tests.{and-left, and-right, or-left, or-right, or-cases, le-or-lt}
 use Rattle.sets.proofs.CountLaws.{count-mono}
 use Rattle.agreement.specs.View.{View, after, announcers}
 use Rattle.agreement.specs.Laws.{Laws}
+
+module _ (v : View) (T : ℕ) where
+  open View v using (State, Act, next, clock, announces)
+
+  -- what has been announced by clock T stays announced, whatever more is done
+  pub announced-stays : (s : State) (acts more : List Act) (i : ℕ) → announcers v T s acts i ≡ true → announcers v T s (acts ++ more) i ≡ true
+  unfolding announcers
+  announced-stays s [] more i h = absurd (false≢true h)
+  announced-stays s (a ∷ acts) more i h =
+      let now = leb (clock s) T && announces s a i in
+      ⊎-elim
+      (λ done. or-left now (announcers v T (next s a) (acts ++ more) i) done)
+      (λ coming. or-right now (announcers v T (next s a) (acts ++ more) i) (announced-stays (next s a) acts more i coming))
+      (or-cases now (announcers v T (next s a) acts i) h)
 
 module _ (v : View) (n f M P A : ℕ) (Good : v .State → Type 0) (laws : Laws v n f M P A Good) where
   open View v using (State, Act, next, clock, passTimer, acceptTimer, Live, has, Note, Sent, Listed, announces)
