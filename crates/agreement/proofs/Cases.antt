@@ -17,7 +17,7 @@ pub record StoriesEnd : Type 0 where
   pub good : ending leftOut 0 ≡ record { carriedOut = true; announced = 2; clock = 11; faulty = false; listed = true }
   pub bad : ending leftOut 3 ≡ record { carriedOut = true; announced = 2; clock = 11; faulty = true; listed = false }
   pub notLive : Live (floorAfter small leftOut) 3 → ⊥
-  -- one announcement, by f desks, and clock 11: a good desk may lack the entry
+  -- one announcement by clock 0, so by f desks, and clock 11: a good desk may lack the entry
   pub few : ending tooFew 3 ≡ record { carriedOut = true; announced = 1; clock = 11; faulty = false; listed = false }
 
 pub stories : StoriesEnd

@@ -71,6 +71,8 @@ slowest =
 abbrev pub leftOut : List Move
 leftOut = crash 3 ∷ slowest ++ tries 0 ++ tries 1 ++ tries 2 ++ resetTimers 3 ∷ delay 1 ∷ []
 
--- One desk announces, where f + 1 are two, and all receive it and try again and again: clock 11.
+-- One desk announces at clock 0, where f + 1 are two, and all receive it and try again and again. At clock 11 another announces, which is
+-- too late to count.
 abbrev pub tooFew : List Move
-tooFew = announce 0 0 ∷ threeTicks ++ allReceive 0 ++ delay 2 ∷ allTry ++ delay 2 ∷ allTry ++ delay 2 ∷ allTry ++ delay 2 ∷ allTry
+tooFew =
+    announce 0 0 ∷ threeTicks ++ allReceive 0 ++ delay 2 ∷ allTry ++ delay 2 ∷ allTry ++ delay 2 ∷ allTry ++ delay 2 ∷ allTry ++ announce 1 0 ∷ []
