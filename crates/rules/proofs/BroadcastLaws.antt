@@ -12,10 +12,11 @@ use lib.ListN.{length, length-append}
 use borrow.Author.Tests.{eq-eqb, eqb-true}
 use Rattle.sets.specs.Counting.{bit, count}
 use Rattle.sets.proofs.CountLaws.{count-zero, count-step}
-use Rattle.sets.proofs.Tests.{or-left, or-right, or-cases, clash}
+use Rattle.sets.proofs.Tests.{or-left, or-right, or-cases, clash, decided}
 use Rattle.rules.specs.Rules.{noteOf, waits, post, postAll, broadcast, broadcasts}
+use Rattle.rules.proofs.NoteLaws.{note-to}
 use Rattle.rules.proofs.WaitLaws.{waits-none, waits-one, waits-append, Each}
-use Rattle.rules.proofs.PostLaws.{postAll-append, postAll-last, postAll-longer}
+use Rattle.rules.proofs.PostLaws.{postAll-append, postAll-last, postAll-grows, postAll-longer}
 
 -- ---- one entry, to destinations 0 to n - 1
 
@@ -58,6 +59,13 @@ module _ (t i e : ℕ) where
       up : (j : ℕ) × (j < n) × (x ≡ noteOf t i j e) → (j : ℕ) × (j < suc n) × (x ≡ noteOf t i j e)
       up (j, l, p) = (j, omega arith, p)
 
+  -- the note to desk n comes after them
+  pub broadcast-next : (n : ℕ) → waits (broadcast t i e n) (noteOf t i n e) ≡ false
+  broadcast-next n = ⊎-elim (λ w. absurd (not-yet (broadcast-only n (noteOf t i n e) w))) (λ f. f) (decided (waits (broadcast t i e n) (noteOf t i n e)))
+    where
+      not-yet : (j : ℕ) × (j < n) × (noteOf t i n e ≡ noteOf t i j e) → ⊥
+      not-yet (j, l, p) = omega (arith, note-to t i e n j p)
+
   pub each-broadcast : (P : ℕ → Type 0) (n : ℕ) → ((j : ℕ) → j < n → P (noteOf t i j e)) → Each P (broadcast t i e n)
   each-broadcast P n h x w = of (broadcast-only n x w)
     where
@@ -76,6 +84,10 @@ module _ (t i e : ℕ) where
     pub post-broadcast-longer : (j n : ℕ) → j ≤ n → length (postAll ns (broadcast t i e j)) ≤ length (postAll ns (broadcast t i e n))
     unfolding broadcast
     post-broadcast-longer j n h = postAll-longer ns (broadcast t i e) (λ k. noteOf t i k e ∷ []) (λ k. refl) j n h
+
+    -- no more are added than it has
+    pub post-broadcast-most : (n : ℕ) → length (postAll ns (broadcast t i e n)) ≤ length ns + n
+    post-broadcast-most n = rw (length-broadcast n) at (postAll-grows ns (broadcast t i e n) .1)
 
 -- ---- the entries below u that pass a test, in rising order
 
@@ -119,15 +131,15 @@ module _ (test : ℕ → Bool) (t i n : ℕ) where
       (eq-or-lt-of-le (le-of-suc-le-suc h))
 
   -- a note of the entries below u: its entry, its destination, and what is known of them
-  pub record Of (u x : ℕ) : Type 0 where
-    pub ofEntry : ℕ
-    pub ofDesk : ℕ
-    pub entryBelow : ofEntry < u
-    pub deskBelow : ofDesk < n
-    pub isDue : test ofEntry ≡ true
-    pub isNote : x ≡ noteOf t i ofDesk ofEntry
+  pub record DueNote (u x : ℕ) : Type 0 where
+    pub entryNo : ℕ
+    pub deskNo : ℕ
+    pub entryBelow : entryNo < u
+    pub deskBelow : deskNo < n
+    pub isDue : test entryNo ≡ true
+    pub isNote : x ≡ noteOf t i deskNo entryNo
 
-  pub broadcasts-only : (u x : ℕ) → waits (broadcasts test t i n u) x ≡ true → Of u x
+  pub broadcasts-only : (u x : ℕ) → waits (broadcasts test t i n u) x ≡ true → DueNote u x
   unfolding broadcasts
   broadcasts-only zero x w = clash (waits [] x) w (waits-none x)
   broadcasts-only (suc u) x w =
@@ -139,21 +151,21 @@ module _ (test : ℕ → Bool) (t i n : ℕ) where
       (waits (cond (test u) (broadcast t i u n) []) x)
       (sym (waits-append (broadcasts test t i n u) (cond (test u) (broadcast t i u n) []) x) ∙ w))
     where
-      up : Of u x → Of (suc u) x
-      up o = record { ofEntry = o .ofEntry; ofDesk = o .ofDesk; entryBelow = omega (arith, o .entryBelow); deskBelow = o .deskBelow; isDue = o .isDue; isNote = o .isNote }
+      up : DueNote u x → DueNote (suc u) x
+      up o = record { entryNo = o .entryNo; deskNo = o .deskNo; entryBelow = omega (arith, o .entryBelow); deskBelow = o .deskBelow; isDue = o .isDue; isNote = o .isNote }
 
-      here : test u ≡ true → (j : ℕ) × (j < n) × (x ≡ noteOf t i j u) → Of (suc u) x
-      here d (j, l, p) = record { ofEntry = u; ofDesk = j; entryBelow = omega arith; deskBelow = l; isDue = d; isNote = p }
+      here : test u ≡ true → (j : ℕ) × (j < n) × (x ≡ noteOf t i j u) → DueNote (suc u) x
+      here d (j, l, p) = record { entryNo = u; deskNo = j; entryBelow = omega arith; deskBelow = l; isDue = d; isNote = p }
 
-      last : (b : Bool) → test u ≡ b → waits (cond b (broadcast t i u n) []) x ≡ true → Of (suc u) x
+      last : (b : Bool) → test u ≡ b → waits (cond b (broadcast t i u n) []) x ≡ true → DueNote (suc u) x
       last true d v = here d (broadcast-only t i u n x v)
       last false d v = clash (waits [] x) v (waits-none x)
 
   pub each-broadcasts : (P : ℕ → Type 0) (u : ℕ) → ((e j : ℕ) → e < u → j < n → test e ≡ true → P (noteOf t i j e)) → Each P (broadcasts test t i n u)
   each-broadcasts P u h x w = of (broadcasts-only u x w)
     where
-      of : Of u x → P x
-      of o = subst P (sym (o .isNote)) (h (o .ofEntry) (o .ofDesk) (o .entryBelow) (o .deskBelow) (o .isDue))
+      of : DueNote u x → P x
+      of o = subst P (sym (o .isNote)) (h (o .entryNo) (o .deskNo) (o .entryBelow) (o .deskBelow) (o .isDue))
 
   -- posting them
   module _ (ns : List ℕ) where
@@ -171,3 +183,6 @@ module _ (test : ℕ → Bool) (t i n : ℕ) where
     pub post-broadcasts-longer : (e u : ℕ) → e ≤ u → length (postAll ns (broadcasts test t i n e)) ≤ length (postAll ns (broadcasts test t i n u))
     unfolding broadcasts
     post-broadcasts-longer e u h = postAll-longer ns (broadcasts test t i n) (λ k. cond (test k) (broadcast t i k n) []) (λ k. refl) e u h
+
+    pub post-broadcasts-most : (u : ℕ) → length (postAll ns (broadcasts test t i n u)) ≤ length ns + count test u * n
+    post-broadcasts-most u = rw (length-broadcasts u) at (postAll-grows ns (broadcasts test t i n u) .1)

@@ -33,11 +33,11 @@ passed-zero [] p = first-none
 passed-zero (c ∷ cs) p = first-passes (c .0) (c .1) cs (p .0) ∙ passed-zero cs (p .1)
 
 -- every refusal has a number, so 0 says that none was made
-abbrev Numbered : List Check → Type 0
+abbrev pub Numbered : List Check → Type 0
 Numbered [] = Unit {0}
 Numbered (c ∷ cs) = (c .0 ≡ 0 → ⊥) × Numbered cs
 
-zero-passed : (cs : List Check) → Numbered cs → firstOf cs ≡ 0 → Passed cs
+pub zero-passed : (cs : List Check) → Numbered cs → firstOf cs ≡ 0 → Passed cs
 zero-passed [] n e = tt
 zero-passed (c ∷ cs) n e = go (c .1) refl (zero-passed cs (n .1))
   where
@@ -45,20 +45,20 @@ zero-passed (c ∷ cs) n e = go (c .1) refl (zero-passed cs (n .1))
     go true f rest = absurd (n .0 (sym (first-fails (c .0) (c .1) cs f) ∙ e))
     go false f rest = (f, rest (sym (first-passes (c .0) (c .1) cs f) ∙ e))
 
-no : (number : ℕ) → eqb number 0 ≡ false → number ≡ 0 → ⊥
-no number e = eqb-false number 0 e
+pub not-zero : (number : ℕ) → eqb number 0 ≡ false → number ≡ 0 → ⊥
+not-zero number e = eqb-false number 0 e
 
 numbered : (s : State) (m : Move) → Numbered (checks s m)
 unfolding checks
-numbered s (delay t) = (no _ refl, (no _ refl, (no _ refl, tt)))
-numbered s (announce i e) = (no _ refl, (no _ refl, (no _ refl, tt)))
-numbered s (passOn i) = (no _ refl, (no _ refl, tt))
-numbered s (accept j) = (no _ refl, tt)
-numbered s (receive j i e) = (no _ refl, (no _ refl, (no _ refl, (no _ refl, tt))))
-numbered s (crash i) = (no _ refl, (no _ refl, (no _ refl, tt)))
-numbered s (resetTimers i) = (no _ refl, (no _ refl, tt))
-numbered s (falseNote i j e t) = (no _ refl, (no _ refl, (no _ refl, (no _ refl, (no _ refl, (no _ refl, tt))))))
-numbered s unknown = (no _ refl, tt)
+numbered s (delay t) = (not-zero _ refl, (not-zero _ refl, (not-zero _ refl, tt)))
+numbered s (announce i e) = (not-zero _ refl, (not-zero _ refl, (not-zero _ refl, tt)))
+numbered s (passOn i) = (not-zero _ refl, (not-zero _ refl, tt))
+numbered s (accept j) = (not-zero _ refl, tt)
+numbered s (receive j i e) = (not-zero _ refl, (not-zero _ refl, (not-zero _ refl, (not-zero _ refl, tt))))
+numbered s (crash i) = (not-zero _ refl, (not-zero _ refl, (not-zero _ refl, tt)))
+numbered s (resetTimers i) = (not-zero _ refl, (not-zero _ refl, tt))
+numbered s (falseNote i j e t) = (not-zero _ refl, (not-zero _ refl, (not-zero _ refl, (not-zero _ refl, (not-zero _ refl, (not-zero _ refl, tt))))))
+numbered s unknown = (not-zero _ refl, tt)
 
 -- ---- a move
 
@@ -92,7 +92,7 @@ announce-below s i e (hi, (he, _)) = (below-passed i (s .settings .n) hi, below-
 
 pub opens-within : (k : Settings) → opens k ≡ 0 → withinLimits k ≡ true
 unfolding opens
-opens-within k e = not-false (withinLimits k) (zero-passed (2 when not (withinLimits k) ∷ []) (no 2 refl, tt) e .0)
+opens-within k e = not-false (withinLimits k) (zero-passed (2 when not (withinLimits k) ∷ []) (not-zero 2 refl, tt) e .0)
 
 pub within-opens : (k : Settings) → withinLimits k ≡ true → opens k ≡ 0
 unfolding opens

@@ -1,18 +1,17 @@
 -- A desk in shape: the test as a record of bounds, and that each change of a desk keeps it. Nobody else unfolds `deskInShape` and
 -- `setInShape`. Assumes nothing.
-use mathlib.Core.Path.{_≡_, refl, sym, ap, _∙_, subst}
-use mathlib.Core.Bool.{Bool, true, false, cond}
+use mathlib.Core.Path.{_≡_}
+use mathlib.Core.Bool.{Bool, true, cond}
 use mathlib.Core.List.{List, [], _∷_}
-use Prim.Native.Nat.{ℕ, _+_, _^_, _≤_, _<_, zero-le}
+use Prim.Native.Nat.{ℕ, _^_, _≤_, _<_, zero-le}
 use native.Mathlib.Nat.{le-refl}
 use lib.Dec.{leb, ltb}
-use lib.ListN.{getD, set}
 use borrow.Author.Tests.{lt-ltb, le-leb, leb-true}
 use Rattle.sets.specs.Sets.{insert, allBelow}
-use Rattle.sets.proofs.Tests.{apart, AllTrue, cond-true}
+use Rattle.sets.proofs.Tests.{apart, cond-true}
 use Rattle.sets.proofs.MemberLaws.{all-below, lt-all-below, insert-lt}
 use Rattle.sets.proofs.InsertAllLaws.{insertAll-lt}
-use Rattle.rules.specs.Rules.{Settings, Desk, sources, timed, later, withSent, due, passing, ripe, accepting, hearing, crashed, everyBelow, setInShape, deskInShape}
+use Rattle.rules.specs.Rules.{Settings, Desk, sources, timed, withSent, due, passing, ripe, accepting, hearing, crashed, everyBelow, setInShape, deskInShape}
 use Rattle.rules.proofs.DeskLaws.{set-change, below-each, each-below}
 
 -- the set x of entry e holds only desks that may stand there

@@ -1,19 +1,18 @@
 -- What each move changes and leaves. A desk forgets nothing; only the desk that a move names changes, but for a delay; settings and
 -- lengths stay, and the clock moves by delays alone. Assumes nothing.
 use mathlib.Core.Path.{_≡_, refl, sym, ap, _∙_, subst}
-use mathlib.Core.Bool.{Bool, true, false, cond}
-use mathlib.Core.Logic.{_≢_}
+use mathlib.Core.Bool.{true, false}
 use mathlib.Core.List.{List}
 use Prim.Native.Nat.{ℕ, zero, suc, _+_, _≤_, _<_}
 use native.Mathlib.Nat.{le-refl}
 use native.Mathlib.Omega.{arith}
-use lib.ListN.{length, getD, set, replicate, length-set, length-replicate, getD-replicate}
+use lib.ListN.{length, getD, replicate, length-set, length-replicate, getD-replicate}
 use Rattle.sets.specs.Sets.{member, insert}
 use Rattle.sets.proofs.Tests.{cond-true, cond-false, cond-both}
 use Rattle.sets.proofs.MemberLaws.{member-zero, insert-keeps}
 use Rattle.sets.proofs.InsertAllLaws.{insertAll-keeps}
 use Rattle.rules.specs.Rules.{Settings, Desk, State, freshDesk, fresh, noDesk, deskAt, sources, withDesk, withNotes, postAll, broadcast, broadcasts, newTimeOut}
-use Rattle.rules.specs.Rules.{timed, later, mapFirst, isSent, withSent, announced, due, passing, passedOn, ripe, accepting, earliest, takenOut, hearing, crashed, post, noteOf}
+use Rattle.rules.specs.Rules.{timed, later, isSent, withSent, announced, due, passing, passedOn, ripe, accepting, earliest, takenOut, hearing, crashed}
 use Rattle.rules.specs.Rules.{Move, delay, announce, passOn, accept, receive, crash, resetTimers, falseNote, unknown, effect, next}
 use Rattle.rules.proofs.DeskLaws.{set-change, first-long, first-change, desk-other, desk-change}
 use Rattle.rules.proofs.CheckLaws.{next-keeps}

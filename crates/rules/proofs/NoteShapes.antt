@@ -1,7 +1,7 @@
 -- Notes in shape: the test as a record of inequalities, and that posting, taking out and a delay keep every note in shape.
 -- Nobody else unfolds `noteInShape` and `notPast`. Assumes nothing.
-use mathlib.Core.Path.{_≡_}
-use mathlib.Core.Bool.{Bool, true}
+use mathlib.Core.Path.{_≡_, refl, sym, _∙_}
+use mathlib.Core.Bool.{Bool, true, _&&_}
 use mathlib.Core.List.{List, [], _∷_}
 use Prim.Native.Nat.{ℕ, _+_, _^_, _≤_, _<_}
 use native.Mathlib.Omega.{arith}
@@ -10,7 +10,7 @@ use borrow.Author.Tests.{lt-ltb, le-leb, ltb-true, leb-true}
 use Rattle.sets.proofs.Tests.{apart, joined, AllTrue}
 use Rattle.rules.specs.Rules.{Settings, noteOf, timeOut, source, destination, entry, post, postAll, broadcast, broadcasts, Place, takenOut, everyNote, notPast, noteInShape, lastTick}
 use Rattle.rules.proofs.NoteLaws.{time-note, source-note, destination-note, entry-note, note-small}
-use Rattle.rules.proofs.WaitLaws.{Each, each-every, every-each}
+use Rattle.rules.proofs.WaitLaws.{every-ext, Each, each-every, every-each}
 use Rattle.rules.proofs.PostLaws.{each-post, each-postAll}
 use Rattle.rules.proofs.BroadcastLaws.{each-broadcast, each-broadcasts}
 use Rattle.rules.proofs.TakeOutLaws.{each-takenOut}
@@ -33,6 +33,17 @@ module _ (k : Settings) (clock x : ℕ) where
       ∷ leb clock (timeOut x)
       ∷ leb (timeOut x) (clock + k .m)
       ∷ []
+
+  -- the test, for code that makes it
+  pub shape-is : noteInShape k clock x
+      ≡ (ltb x (2 ^ 56)
+      && ltb (source x) (k .n)
+      && ltb (destination x) (k .n)
+      && ltb (entry x) (k .u)
+      && leb clock (timeOut x)
+      && leb (timeOut x) (clock + k .m))
+  unfolding noteInShape
+  shape-is = refl
 
   pub note-shape : noteInShape k clock x ≡ true → NoteShape k clock x
   unfolding noteInShape
@@ -63,6 +74,16 @@ module _ (k : Settings) (clock x : ℕ) where
           ),
         ),
       )
+
+-- of the settings it looks at n, U and M alone
+pub shape-same : (k l : Settings) (clock : ℕ) (ns : List ℕ) → k .n ≡ l .n → k .u ≡ l .u → k .m ≡ l .m
+    → everyNote (noteInShape k clock) ns ≡ everyNote (noteInShape l clock) ns
+shape-same k l clock ns n u m =
+    every-ext (noteInShape k clock) (noteInShape l clock) ns (λ x. shape-is k clock x ∙ rw (n, u, m) (sym (shape-is l clock x)))
+
+pub notPast-is : (time x : ℕ) → notPast time x ≡ leb time (timeOut x)
+unfolding notPast
+notPast-is time x = refl
 
 pub notPast-le : (time x : ℕ) → notPast time x ≡ true → time ≤ timeOut x
 unfolding notPast

@@ -15,6 +15,14 @@ use Rattle.sets.proofs.Tests.{clash, le-or-lt, cond-both}
 use Rattle.rules.specs.Rules.{timeOut, waits, speaksOf, Place, at, none, earlier, earliestOf, earliest, isNone}
 use Rattle.rules.proofs.WaitLaws.{place-of, waits-at, Each, each-at}
 
+pub isNone-is : isNone none ≡ true
+unfolding isNone
+isNone-is = refl
+
+pub isNone-at : (k : ℕ) → isNone (at k) ≡ false
+unfolding isNone
+isNone-at k = refl
+
 module _ (i j e : ℕ) (ns : List ℕ) where
   abbrev Speaks : ℕ → Type 0
   Speaks p = speaksOf i j e (getD ns p 0) ≡ true
@@ -170,17 +178,15 @@ module _ (i j e : ℕ) (ns : List ℕ) where
 
   -- 6 is given exactly where none exists
   pub isNone-none : isNone (earliest i j e ns) ≡ true → Each (λ x. speaksOf i j e x ≡ false) ns
-  unfolding isNone
   isNone-none h = by (earliest i j e ns) refl h
     where
       by : (f : Place) → earliest i j e ns ≡ f → isNone f ≡ true → Each (λ x. speaksOf i j e x ≡ false) ns
       by none q t = none-speaks q
-      by (at k) q t = clash (isNone (at k)) t refl
+      by (at k) q t = clash (isNone (at k)) t (isNone-at k)
 
   pub isNone-found : isNone (earliest i j e ns) ≡ false → (k : ℕ) × (earliest i j e ns ≡ at k)
-  unfolding isNone
   isNone-found h = by (earliest i j e ns) refl h
     where
       by : (f : Place) → earliest i j e ns ≡ f → isNone f ≡ false → (k : ℕ) × (earliest i j e ns ≡ at k)
-      by none q t = clash (isNone none) refl t
+      by none q t = clash (isNone none) isNone-is t
       by (at k) q t = (k, q)

@@ -1,17 +1,15 @@
 -- The fresh floor is in shape, and every move keeps the shape: a carried-out one by its checks, a refused one because it changes nothing.
 -- Assumes nothing.
-use mathlib.Core.Path.{_≡_, refl, sym, ap, _∙_, subst}
-use mathlib.Core.Bool.{Bool, true, false, not, cond, _&&_, _||_}
+use mathlib.Core.Path.{_≡_, refl, sym, ap, subst}
+use mathlib.Core.Bool.{Bool, true, false, cond, _&&_}
 use mathlib.Core.Logic.{_⊎_, inl, inr, ⊎-elim}
-use mathlib.Core.List.{List, [], _∷_}
-use Prim.Native.Nat.{ℕ, zero, suc, _+_, _≤_, _<_, zero-le}
+use mathlib.Core.List.{List}
+use Prim.Native.Nat.{ℕ, _+_, _≤_, _<_, zero-le}
 use native.Mathlib.Nat.{le-trans, lt-of-lt-of-le}
-use native.Mathlib.Omega.{arith}
 use lib.Dec.{leb, ltb}
 use lib.Pow.{pow-pos}
-use lib.ListN.{length, getD, replicate, getD-replicate}
+use lib.ListN.{length, getD, getD-replicate}
 use borrow.Author.Tests.{not-false, leb-true, leb-false, ltb-false}
-use Rattle.sets.specs.Counting.{count}
 use Rattle.sets.specs.Sets.{insert}
 use Rattle.sets.proofs.Tests.{and-left, and-right, le-or-lt, or-none, cond-both}
 use Rattle.sets.proofs.CountLaws.{count-mono, count-none}
@@ -27,7 +25,7 @@ use Rattle.rules.proofs.TakeOutLaws.{takenOut-shorter}
 use Rattle.rules.proofs.NoteShapes.{shape-post, shape-broadcast, shape-broadcasts, shape-takenOut, shape-later}
 use Rattle.rules.proofs.DeskShapes.{SetShape, DeskShape, shape-desk, timed-shape, crashed-shape, sent-shape, passing-shape, accepting-shape, hearing-shape}
 use Rattle.rules.proofs.Effects.{sending, announced-both, passingOn, passedOn-is}
-use Rattle.rules.proofs.Shapes.{Shape, shape, in-shape, limits, PlaceShape, desk-below, below-desk, shape-limits, shape-desk-at, turn, turn-notes}
+use Rattle.rules.proofs.Shapes.{Shape, shape, in-shape, limits, PlaceShape, below-desk, shape-limits, shape-desk-at, turn, turn-notes}
 
 -- ---- the fresh floor
 

@@ -1,31 +1,21 @@
 -- A floor in shape: the test as a record, the fresh floor has it, and every move keeps it. Nobody else unfolds `inShape`, `placeInShape`,
 -- `zeroDesk` and `withinLimits`. Assumes nothing.
-use mathlib.Core.Path.{_≡_, refl, sym, ap, _∙_, subst}
-use mathlib.Core.Bool.{Bool, true, false, not, cond, _&&_}
-use mathlib.Core.Logic.{_⊎_, inl, inr, ⊎-elim, _≢_}
+use mathlib.Core.Path.{_≡_, sym, ap, _∙_}
+use mathlib.Core.Bool.{Bool, true, cond, _&&_}
+use mathlib.Core.Logic.{_⊎_, ⊎-elim}
 use mathlib.Core.List.{List, [], _∷_}
-use Prim.Native.Nat.{ℕ, _+_, _*_, _^_, _≤_, _<_, zero-le}
+use Prim.Native.Nat.{ℕ, _+_, _*_, _≤_, _<_}
 use native.Mathlib.Nat.{le-trans}
 use native.Mathlib.Omega.{arith}
-use lib.Dec.{leb, ltb, eqb}
-use lib.ListN.{length, getD, set, length-replicate}
-use borrow.Author.Tests.{not-false, lt-ltb, le-ltb, le-leb, leb-true, leb-false, ltb-false, ltb-true}
-use Rattle.sets.specs.Counting.{count}
-use Rattle.sets.specs.Sets.{insert, allBelow}
-use Rattle.sets.proofs.Tests.{apart, cond-true, cond-false, le-or-lt, or-none}
-use Rattle.sets.proofs.CountLaws.{count-mono, count-but-one, count-none}
-use Rattle.sets.proofs.MemberLaws.{lt-all-below}
-use Rattle.rules.specs.Rules.{Settings, Desk, State, from1to, withinLimits, lastTick, mostNotes, freshDesk, fresh, noDesk, deskAt, sources, withDesk, withNotes, newTimeOut}
-use Rattle.rules.specs.Rules.{timed, later, mapFirst, withSent, passing, accepting, earliest, takenOut, hearing, crashed, post, postAll, broadcast, broadcasts, due, announced, passedOn, noteOf}
-use Rattle.rules.specs.Rules.{Move, delay, announce, passOn, accept, receive, crash, resetTimers, falseNote, unknown, effect, checks, next}
-use Rattle.rules.specs.Rules.{everyNote, everyBelow, notPast, timersHold, faults, noteInShape, deskInShape, zeroDesk, placeInShape, inShape}
-use Rattle.rules.proofs.CheckLaws.{Passed, below-passed, next-keeps}
-use Rattle.rules.proofs.DeskLaws.{set-change, first-change, first-past, desk-change, desk-other, below-each, each-below}
-use Rattle.rules.proofs.NoteShapes.{shape-post, shape-broadcast, shape-broadcasts, shape-takenOut, shape-later}
-use Rattle.rules.proofs.WaitLaws.{every-none}
-use Rattle.rules.proofs.TakeOutLaws.{takenOut-shorter}
-use Rattle.rules.proofs.DeskShapes.{DeskShape, desk-shape, shape-desk, timed-shape, crashed-shape, sent-shape, passing-shape, accepting-shape, hearing-shape}
-use Rattle.rules.proofs.Effects.{sending, announced-both, passingOn, passedOn-is}
+use lib.Dec.{leb, ltb}
+use lib.ListN.{length}
+use borrow.Author.Tests.{lt-ltb, le-leb, leb-true}
+use Rattle.sets.proofs.Tests.{apart, cond-true}
+use Rattle.sets.proofs.CountLaws.{count-mono, count-but-one}
+use Rattle.rules.specs.Rules.{Settings, Desk, State, from1to, withinLimits, lastTick, mostNotes, noDesk, deskAt, withDesk, withNotes}
+use Rattle.rules.specs.Rules.{everyNote, everyBelow, faults, noteInShape, deskInShape, zeroDesk, placeInShape, inShape}
+use Rattle.rules.proofs.DeskLaws.{set-change, desk-change, desk-other, below-each, each-below}
+use Rattle.rules.proofs.DeskShapes.{DeskShape, desk-shape, shape-desk}
 
 -- ---- the settings
 

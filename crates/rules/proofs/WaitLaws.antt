@@ -22,6 +22,14 @@ pub waits-one : (y x : ℕ) → waits (y ∷ []) x ≡ eqb y x
 unfolding waits
 waits-one y x = or-false (eqb y x)
 
+pub waits-here : (y : ℕ) (ns : List ℕ) → waits (y ∷ ns) y ≡ true
+unfolding waits
+waits-here y ns = or-left (eqb y y) (waits ns y) (eq-eqb y y refl)
+
+pub waits-there : (y : ℕ) (ns : List ℕ) (x : ℕ) → waits ns x ≡ true → waits (y ∷ ns) x ≡ true
+unfolding waits
+waits-there y ns x w = or-right (eqb y x) (waits ns x) w
+
 pub waits-append : (ns ms : List ℕ) (x : ℕ) → waits (ns ++ ms) x ≡ (waits ns x || waits ms x)
 unfolding waits
 waits-append [] ms x = refl
@@ -30,10 +38,9 @@ waits-append (y ∷ ns) ms x = rw (waits-append ns ms x) (sym (or-assoc (eqb y x
 -- ---- a note waits where it stands at a place, and only there
 
 pub waits-at : (ns : List ℕ) (k : ℕ) → k < length ns → waits ns (getD ns k 0) ≡ true
-unfolding waits
 waits-at [] k h = absurd (not-suc-le-zero h)
-waits-at (x ∷ ns) zero h = or-left (eqb x x) (waits ns x) (eq-eqb x x refl)
-waits-at (x ∷ ns) (suc k) h = or-right (eqb x (getD ns k 0)) (waits ns (getD ns k 0)) (waits-at ns k (le-of-suc-le-suc h))
+waits-at (x ∷ ns) zero h = waits-here x ns
+waits-at (x ∷ ns) (suc k) h = waits-there x ns (getD ns k 0) (waits-at ns k (le-of-suc-le-suc h))
 
 pub place-of : (ns : List ℕ) (x : ℕ) → waits ns x ≡ true → (k : ℕ) × (k < length ns) × (getD ns k 0 ≡ x)
 unfolding waits
@@ -44,9 +51,6 @@ place-of (y ∷ ns) x e = ⊎-elim (λ f. (0, zero-lt-suc (length ns), eqb-true 
     after (k, l, f) = (suc k, suc-le-suc l, f)
 
 -- ---- one place more of a scan
-
-pub waits-start : (ns : List ℕ) (x : ℕ) → waits (take 0 ns) x ≡ false
-waits-start ns x = waits-none x
 
 pub waits-step : (ns : List ℕ) (x k : ℕ) → k < length ns → waits (take (k + 1) ns) x ≡ (waits (take k ns) x || eqb (getD ns k 0) x)
 waits-step ns x k h = rw (add-one, take-suc ns k 0, waits-append, waits-one)
@@ -65,11 +69,13 @@ module _ (test : ℕ → Bool) where
   unfolding everyNote
   every-one x = and-true (test x)
 
-  pub every-start : (ns : List ℕ) → everyNote test (take 0 ns) ≡ true
-  every-start ns = every-none
-
   pub every-step : (ns : List ℕ) (k : ℕ) → k < length ns → everyNote test (take (k + 1) ns) ≡ (everyNote test (take k ns) && test (getD ns k 0))
   every-step ns k h = rw (add-one, take-suc ns k 0, every-append, every-one)
+
+pub every-ext : (f g : ℕ → Bool) (ns : List ℕ) → ((x : ℕ) → f x ≡ g x) → everyNote f ns ≡ everyNote g ns
+unfolding everyNote
+every-ext f g [] h = refl
+every-ext f g (x ∷ ns) h = rw (h x, every-ext f g ns h)
 
 -- ---- what holds of every waiting note
 
@@ -87,11 +93,10 @@ each-every test (y ∷ ns) e x w =
     (or-cases (eqb y x) (waits ns x) w)
 
 pub every-each : (test : ℕ → Bool) (ns : List ℕ) → Each (λ x. test x ≡ true) ns → everyNote test ns ≡ true
-unfolding everyNote waits
+unfolding everyNote
 every-each test [] h = refl
 every-each test (y ∷ ns) h =
-    and-both (test y) (everyNote test ns) (h y (or-left (eqb y y) (waits ns y) (eq-eqb y y refl)))
-    (every-each test ns (λ x w. h x (or-right (eqb y x) (waits ns x) w)))
+    and-both (test y) (everyNote test ns) (h y (waits-here y ns)) (every-each test ns (λ x w. h x (waits-there y ns x w)))
 
 module _ (P : ℕ → Type 0) where
   pub each-none : Each P []

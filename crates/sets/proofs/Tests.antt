@@ -1,11 +1,15 @@
 -- Tests taken apart and put together: what the laws of every crate use of Booleans. Assumes nothing.
-use mathlib.Core.Path.{_≡_, refl, sym, ap, _∙_}
+use mathlib.Core.Path.{_≡_, refl, sym, _∙_}
 use mathlib.Core.Bool.{Bool, true, false, not, cond, _&&_, _||_, or-true, false≢true, true≢false}
 use mathlib.Core.Logic.{_⊎_, inl, inr}
 use mathlib.Core.List.{List, [], _∷_}
 use Prim.Native.Nat.{ℕ, _≤_, _<_}
 use lib.Dec.{leb}
-use borrow.Author.Tests.{leb-true, leb-false}
+use borrow.Author.Tests.{leb-true, leb-false, not-true, not-false}
+
+-- A promise `result ≡ definition` allows one result.
+pub one-result : {A : Type 0} {x y definition : A} → x ≡ definition → y ≡ definition → x ≡ y
+one-result p q = p ∙ sym q
 
 pub clash : {A : Type 0} (b : Bool) → b ≡ true → b ≡ false → A
 clash b t f = absurd (true≢false (sym t ∙ f))
@@ -20,6 +24,13 @@ le-or-lt m n = go (leb m n) refl
     go : (b : Bool) → leb m n ≡ b → (m ≤ n) ⊎ (n < m)
     go true e = inl (leb-true m n e)
     go false e = inr (leb-false m n e)
+
+-- what a test says of a call's result, said of what the call ensures
+pub was-true : {r q : Bool} → r ≡ q → not r ≡ false → q ≡ true
+was-true {r} e t = sym e ∙ not-false r t
+
+pub was-false : {r q : Bool} → r ≡ q → not r ≡ true → q ≡ false
+was-false {r} e t = sym e ∙ not-true r t
 
 -- ---- or
 
