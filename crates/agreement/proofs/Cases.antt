@@ -2,7 +2,7 @@
 use mathlib.Core.Path.{_≡_, refl}
 use mathlib.Core.Bool.{true, false, true≢false}
 use Rattle.sets.specs.Counting.{count}
-use Rattle.sets.specs.Sets.{member, insert, insertAll, allBelow}
+use Rattle.sets.specs.Sets.{member, insert, insertAll}
 use Rattle.rules.specs.Rules.{freshDesk, fresh, waits, post, postAll, broadcast, broadcasts, mapFirst, announced, due, passedOn, ripe, earlier, earliestOf, earliest, without, takenOut}
 use Rattle.rules.specs.Rules.{effect, firstOf, everyNote, everyBelow, notPast, timersHold, isNone, checks, answer, next}
 use Rattle.rules.specs.Cases.{small}
@@ -21,5 +21,5 @@ pub record StoriesEnd : Type 0 where
   pub few : ending tooFew 3 ≡ record { carriedOut = true; announced = 1; clock = 11; faulty = false; listed = false }
 
 pub stories : StoriesEnd
-unfolding count member insert insertAll allBelow freshDesk fresh waits post postAll broadcast broadcasts mapFirst announced due passedOn ripe earlier earliestOf earliest without takenOut effect firstOf everyNote everyBelow notPast timersHold isNone checks answer next after announcers allCarriedOut
+unfolding count member insert insertAll freshDesk fresh waits post postAll broadcast broadcasts mapFirst announced due passedOn ripe earlier earliestOf earliest without takenOut effect firstOf everyNote everyBelow notPast timersHold isNone checks answer next after announcers allCarriedOut
 stories = record { late = refl; good = refl; bad = refl; notLive = λ live. true≢false (live .1); few = refl }

@@ -17,7 +17,7 @@ use Rattle.agreement.proofs.RulesLaws.{Good, fresh-good, laws}
 pub demand-3 : (k : Settings) → withinLimits k ≡ true → (e : ℕ) → e < k .u → (moves : List Move) (T : ℕ)
     → AnnouncedBy k e moves T → LaterThanWait k T (floorAfter k moves) → OnEveryGoodList e (floorAfter k moves)
 demand-3 k limits e below moves T announced late =
-    spread (view e) (k .n) (k .f) (k .m) (k .p) (k .a) (Good k e below) (laws k e below) (fresh k) (fresh-good k e below limits) T (omega (arith, fresh-clock k)) moves
+    spread (view e) (k .n) (k .f) (k .m) (k .p) (k .a) (Good k e) (laws k e below) (fresh k) (fresh-good k e limits) T (omega (arith, fresh-clock k)) moves
     (announcers (view e) T (fresh k) moves) (omega arith) (λ i l told. inr told) (omega arith)
 
 -- Read from where the announcements have been carried out: in every later state of the floor, whatever more is done.

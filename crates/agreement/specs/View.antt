@@ -35,4 +35,4 @@ module _ (v : View) where
   -- desk i carries out an announcement at a clock of at most T
   unfoldable pub announcers : ℕ → State → List Act → ℕ → Bool
   announcers T s [] i = false
-  announcers T s (a ∷ acts) i = leb (clock s) T && announces s a i || announcers T (next s a) acts i
+  announcers T s (a ∷ acts) i = (leb (clock s) T && announces s a i) || announcers T (next s a) acts i
