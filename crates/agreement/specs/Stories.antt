@@ -40,15 +40,15 @@ ending moves j =
 
 -- ---- the stories
 
--- desk i tries both; all desks try both; every desk receives entry 0 from desk i
+-- desk i tries both; all desks try both; every desk receives entry e from desk i
 abbrev pub tries : ℕ → List Move
 tries i = passOn i ∷ accept i ∷ []
 
 abbrev pub allTry : List Move
 allTry = tries 0 ++ tries 1 ++ tries 2 ++ tries 3
 
-abbrev pub allReceive : ℕ → List Move
-allReceive i = receive 0 i 0 ∷ receive 1 i 0 ∷ receive 2 i 0 ∷ receive 3 i 0 ∷ []
+abbrev pub allReceive : ℕ → ℕ → List Move
+allReceive i e = receive 0 i e ∷ receive 1 i e ∷ receive 2 i e ∷ receive 3 i e ∷ []
 
 -- three ticks, in which every desk tries both as late as it may: at clock + 2, and again at clock + 3
 abbrev pub threeTicks : List Move
@@ -59,11 +59,11 @@ abbrev pub slowest : List Move
 slowest =
     announce 0 0 ∷ announce 1 0 ∷ []
     -- T + M = 3: every desk has two sources, and has just tried
-    ++ threeTicks ++ allReceive 0 ++ allReceive 1
+    ++ threeTicks ++ allReceive 0 0 ++ allReceive 1 0
     -- T + M + P = 5: desks 2 and 3 pass on
     ++ delay 2 ∷ allTry
     -- T + 2M + P = 8: every desk has four sources, and has just tried
-    ++ threeTicks ++ allReceive 2 ++ allReceive 3
+    ++ threeTicks ++ allReceive 2 0 ++ allReceive 3 0
     -- T + 2M + P + A = 10
     ++ delay 2 ∷ []
 
@@ -71,8 +71,11 @@ slowest =
 abbrev pub leftOut : List Move
 leftOut = crash 3 ∷ slowest ++ tries 0 ++ tries 1 ++ tries 2 ++ resetTimers 3 ∷ delay 1 ∷ []
 
--- One desk announces at clock 0, where f + 1 are two, and all receive it and try again and again. At clock 11 another announces, which is
--- too late to count.
+-- Desk 0 alone announces entry 0 at clock 0, where f + 1 are two, and all receive it and try again and again. Desk 1 announces entry 1, and
+-- entry 0 only at clock 11, which is too late to count.
 abbrev pub tooFew : List Move
 tooFew =
-    announce 0 0 ∷ threeTicks ++ allReceive 0 ++ delay 2 ∷ allTry ++ delay 2 ∷ allTry ++ delay 2 ∷ allTry ++ delay 2 ∷ allTry ++ announce 1 0 ∷ []
+    announce 0 0 ∷ announce 1 1 ∷ []
+    ++ threeTicks ++ allReceive 0 0 ++ allReceive 1 1
+    ++ delay 2 ∷ allTry ++ delay 2 ∷ allTry ++ delay 2 ∷ allTry ++ delay 2 ∷ allTry
+    ++ announce 1 0 ∷ []
