@@ -1,5 +1,5 @@
 -- Stories on the small floor that say where demand 3 ends: what may still be at clock T + 2M + P + A, and what happens without one of its
--- premises. All announce entry 0 at clock 0, so T = 0; M = 3, P = 2, A = 2. Assumes nothing.
+-- premises. T = 0, M = 3, P = 2 and A = 2. Assumes nothing.
 use mathlib.Core.Bool.{Bool, true, _&&_}
 use mathlib.Core.List.{List, [], _∷_, _++_}
 use Prim.Native.Nat.{ℕ}
