@@ -1,6 +1,6 @@
 -- Laws of `broadcast` and `broadcasts`: one destination more, one entry more, which notes they have, and how many.
 -- Nobody else unfolds them. Assumes nothing.
-use mathlib.Core.Path.{_≡_, refl, sym, ap, subst, _∙_}
+use mathlib.Core.Path.{_≡_, refl, sym, ap, ap₂, subst, _∙_}
 use mathlib.Core.Bool.{Bool, true, false, cond}
 use mathlib.Core.Logic.{_⊎_, ⊎-elim}
 use mathlib.Core.List.{List, [], _∷_, _++_, append-nil}
@@ -186,3 +186,10 @@ module _ (test : ℕ → Bool) (t i n : ℕ) where
 
     pub post-broadcasts-most : (u : ℕ) → length (postAll ns (broadcasts test t i n u)) ≤ length ns + count test u * n
     post-broadcasts-most u = rw (length-broadcasts u) at (postAll-grows ns (broadcasts test t i n u) .1)
+
+-- tests that agree below u
+pub broadcasts-same : (p q : ℕ → Bool) (t i n u : ℕ) → ((e : ℕ) → e < u → p e ≡ q e) → broadcasts p t i n u ≡ broadcasts q t i n u
+unfolding broadcasts
+broadcasts-same p q t i n zero h = refl
+broadcasts-same p q t i n (suc e) h =
+    ap₂ (λ (before : List ℕ) (b : Bool). before ++ cond b (broadcast t i e n) []) (broadcasts-same p q t i n e (λ d l. h d (omega arith))) (h e (omega arith))

@@ -86,6 +86,10 @@ next-keeps Q s m before after =
 pub below-passed : (x n : ℕ) → not (ltb x n) ≡ false → x < n
 below-passed x n e = ltb-true x n (not-false (ltb x n) e)
 
+pub announce-below : (s : State) (i e : ℕ) → Passed (checks s (announce i e)) → (i < s .settings .n) × (e < s .settings .u)
+unfolding checks
+announce-below s i e (hi, (he, _)) = (below-passed i (s .settings .n) hi, below-passed e (s .settings .u) he)
+
 pub opens-within : (k : Settings) → opens k ≡ 0 → withinLimits k ≡ true
 unfolding opens
 opens-within k e = not-false (withinLimits k) (zero-passed (2 when not (withinLimits k) ∷ []) (not-zero 2 refl, tt) e .0)

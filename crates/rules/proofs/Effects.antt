@@ -3,15 +3,15 @@
 use mathlib.Core.Path.{_≡_, refl, sym, ap, _∙_, subst}
 use mathlib.Core.Bool.{true, false, not, _&&_}
 use mathlib.Core.List.{List}
-use Prim.Native.Nat.{ℕ, _+_, _-_, _≤_, _<_}
+use Prim.Native.Nat.{ℕ, zero, suc, _+_, _-_, _≤_, _<_}
 use native.Mathlib.Nat.{le-refl}
 use native.Mathlib.Numerals.{add-one}
 use native.Mathlib.Omega.{arith}
 use lib.Dec.{leb, ltb}
-use lib.ListN.{length, length-set, length-replicate, getD-replicate}
+use lib.ListN.{length, getD, replicate, length-set, length-replicate, getD-replicate}
 use Rattle.sets.specs.Sets.{member, insert, size}
 use Rattle.sets.proofs.Tests.{cond-true, cond-false, cond-both}
-use Rattle.sets.proofs.MemberLaws.{insert-keeps}
+use Rattle.sets.proofs.MemberLaws.{member-zero, insert-keeps}
 use Rattle.sets.proofs.InsertAllLaws.{insertAll-keeps}
 use Rattle.rules.specs.Rules.{Settings, Desk, State, freshDesk, fresh, noDesk, deskAt, sources, withDesk, withNotes, postAll, broadcast, broadcasts, newTimeOut}
 use Rattle.rules.specs.Rules.{timed, later, isSent, withSent, announced, due, passing, passedOn, ripe, accepting, earliest, takenOut, hearing, crashed}
@@ -151,6 +151,24 @@ fresh-whole k =
       desks = length-replicate 16 freshDesk;
       rows = λ i l. ap (λ (d : Desk). length (d .received)) (getD-replicate 16 i freshDesk noDesk l) ∙ length-replicate {A = ℕ} 64 0;
     }
+
+-- the fresh floor has its settings, clock 0 and no mark
+pub fresh-settings : (k : Settings) → fresh k .settings ≡ k
+unfolding fresh
+fresh-settings k = refl
+
+pub fresh-clock : (k : Settings) → fresh k .clock ≡ 0
+unfolding fresh
+fresh-clock k = refl
+
+pub fresh-unsent : (k : Settings) (i e : ℕ) → isSent (deskAt (fresh k) i) e ≡ false
+unfolding fresh freshDesk
+fresh-unsent k i e = of 16 i
+  where
+    of : (n j : ℕ) → isSent (getD (replicate n freshDesk) j noDesk) e ≡ false
+    of zero j = member-zero e
+    of (suc n) zero = member-zero e
+    of (suc n) (suc j) = of n j
 
 pub next-whole : (s : State) (m : Move) → Whole s → Whole (next s m)
 next-whole s m w = kept-whole s (next s m) (next-kept s m) w

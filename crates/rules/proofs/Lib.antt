@@ -13,3 +13,5 @@ pub mod DeskShapes
 pub mod Shapes
 pub mod ShapeKept
 pub mod Clauses
+pub mod TimerLaws
+pub mod Travels

@@ -7,8 +7,9 @@ use native.Mathlib.Nat.{lt-irrefl, not-suc-le-zero}
 use native.Mathlib.Numerals.{add-one}
 use native.Mathlib.Decide.{decLt, ℕ-discrete}
 use native.Mathlib.Omega.{arith}
+use lib.Bits.{bitOr}
 use Rattle.sets.specs.Sets.{member, insert, insertAll}
-use Rattle.sets.proofs.MemberLaws.{insert-same, insert-other, insert-lt}
+use Rattle.sets.proofs.MemberLaws.{member-zero, member-or, ext-all, insert-same, insert-other, insert-lt}
 
 module _ (p : ℕ → Bool) (x : ℕ) where
   pub insertAll-zero : insertAll p x 0 ≡ x
@@ -84,3 +85,15 @@ unfolding insertAll
 insertAll-same p q x zero h = refl
 insertAll-same p q x (suc k) h =
     ap₂ (λ (b : Bool) (y : ℕ). cond b (insert y k) y) (h k (omega arith)) (insertAll-same p q x k (λ i l. h i (omega arith)))
+
+-- what is put into the empty set, and what that adds to another
+pub insertAll-member : (p : ℕ → Bool) (k j : ℕ) → j < k → member (insertAll p 0 k) j ≡ p j
+insertAll-member p k j l = insertAll-low p 0 k j l ∙ ap (λ (b : Bool). b || p j) (member-zero j)
+
+pub insertAll-or : (p : ℕ → Bool) (x k : ℕ) → bitOr x (insertAll p 0 k) ≡ insertAll p x k
+insertAll-or p x k = ext-all (bitOr x (insertAll p 0 k)) (insertAll p x k) (λ j. member-or x (insertAll p 0 k) j ∙ go j (decLt j k))
+  where
+    go : (j : ℕ) → Dec (j < k) → (member x j || member (insertAll p 0 k) j) ≡ member (insertAll p x k) j
+    go j (yes l) = ap (λ (b : Bool). member x j || b) (insertAll-member p k j l) ∙ sym (insertAll-low p x k j l)
+    go j (no g) =
+        ap (λ (b : Bool). member x j || b) (insertAll-high p 0 k j (omega arith) ∙ member-zero j) ∙ or-false (member x j) ∙ sym (insertAll-high p x k j (omega arith))
