@@ -27,7 +27,7 @@ use Rattle.floors.specs.Bridge.{settingsOf, stateOf, floorOf, deskOf, gathered,
 use Rattle.floors.specs.declared.Settings.{Settings}
 use Rattle.floors.specs.declared.Floor.{Floor}
 use Rattle.floors.specs.declared.Desk as machine
-use Rattle.floors.proofs.Bridge.{floor, floor-same, desk-at, row-stays, back}
+use Rattle.floors.proofs.Bridge.{floor, floor-same, desk-at, row-stays, back, faulty-back, pass-back, accept-back, listed-back, sent-back, received-back}
 use Rattle.actions.specs.declared.head.Head.{Head}
 use Rattle.actions.specs.Actions.{Ready, stepAt, held, left}
 use Rattle.actions.proofs.Steps.{desk-fails, desk-passes, entry-fails, entry-passes, room-fails, room-passes, step-done, refused}
@@ -99,3 +99,118 @@ module _ (k : Settings) (h r : Head) (f : List Bool) (p a l s x area : List ℕ)
             (sym (ap floorOf after ∙ turned fl sized area (ready .waiting) i (omega (arith, ready .desks)) (λ d. withSent (insert (d .sent) e) d) (sending at i e .notes)
             ∙ floor-same (sym (H .counted)) (set-getD f i false) (set-getD p i 0) (set-getD a i 0) (set-getD l i 0) (ap (set s i) (sym low)) (row-stays fl sized i (omega (arith, ready .desks)))))
             (H .whole ∙ sym (ap (λ (z : State). laid (h .waiting) area (z .notes)) after))
+
+  -- ---- pass on
+
+  pub pass-4 : k .n ≤ i → r ≡ record { answer = 4; clock = h .clock; waiting = h .waiting } → left k r f p a l s x area ≡ stepAt fl area (passOn i)
+  pass-4 n q = refused k h r f p a l s x area (passOn i) 4 refl (answer-passOn at i ∙ desk-fails at _ i n) q
+
+  -- d is desk i, es the set of its entries that are due, and count and area′ what posting their broadcasts left
+  module _ (ready : Ready k h (length area)) (sized : Sized fl) (n : i < k .n) (d : machine.Desk) (g : readOf d ≡ gathered f p a l s x i) (es : ℕ)
+      (dues : es ≡ insertAll (due (settingsOf k) (readOf d)) 0 (k .u)) (area′ : List ℕ) (count : ℕ)
+      (P : Posts (broadcasts (member es) (h .clock + k .m) i (k .n) (k .u)) (h .waiting) area area′ count) where
+    abbrev test : ℕ → Bool
+    test = due (settingsOf k) (deskAt at i)
+
+    desk-is : readOf d ≡ deskAt at i
+    desk-is = g ∙ sym (desk-at fl sized area i (omega (arith, ready .desks)))
+
+    due-set : es ≡ insertAll test 0 (k .u)
+    due-set = dues ∙ ap (λ (y : Desk). insertAll (due (settingsOf k) y) 0 (k .u)) desk-is
+
+    same-notes : broadcasts (member es) (h .clock + k .m) i (k .n) (k .u) ≡ broadcasts test (h .clock + k .m) i (k .n) (k .u)
+    same-notes = broadcasts-same (member es) test (h .clock + k .m) i (k .n) (k .u) (λ e b. ap (λ (y : ℕ). member y e) due-set ∙ insertAll-member test (k .u) e b)
+
+    notes-are : passedOn at i .notes ≡ postAll waiting (broadcasts (member es) (h .clock + k .m) i (k .n) (k .u))
+    notes-are = ap (λ (z : State). z .notes) (passedOn-is at i) ∙ ap (postAll waiting) (sym same-notes)
+
+    fits : answer at (passOn i) ≡ firstOf (noRoom (postAll waiting (broadcasts (member es) (h .clock + k .m) i (k .n) (k .u))) ∷ [])
+    fits = answer-passOn at i ∙ desk-passes at _ i n ∙ ap (λ (ns : List ℕ). firstOf (noRoom ns ∷ [])) notes-are
+
+    pub pass-11 : mostNotes < count → r ≡ record { answer = 11; clock = h .clock; waiting = h .waiting } → left k r f p a l s x area′ ≡ stepAt fl area (passOn i)
+    pass-11 full q =
+        rw (posts-refused _ (h .waiting) area area′ count P (omega (arith, ready .exact)))
+        (refused k h r f p a l s x area (passOn i) 11 refl (fits ∙ room-fails (postAll waiting (broadcasts (member es) (h .clock + k .m) i (k .n) (k .u))) [] (subst (λ (c : ℕ). mostNotes < c) (P .counted) full)) q)
+
+    pub pass-0 : count ≤ mostNotes → (d′ : machine.Desk) → readOf d′ ≡ timed 0 (d .accept) (withSent (bitOr (d .sent .0) es) (readOf d))
+        → left k (record { answer = 0; clock = h .clock; waiting = count }) f (set p i (d′ .pass)) a l (set s i (d′ .sent .0)) x area′ ≡ stepAt fl area (passOn i)
+    pass-0 full d′ o =
+        let H : Holds (postAll waiting (broadcasts (member es) (h .clock + k .m) i (k .n) (k .u))) (h .waiting) area area′ count =
+        posts-holds _ (h .waiting) area area′ count P (omega (arith, ready .exact)) in
+        let marks : d′ .sent .0 ≡ passing (settingsOf k) (deskOf fl i) .sent =
+        ap (λ (y : Desk). y .sent) o ∙ ap (bitOr (d .sent .0)) dues ∙ insertAll-or (due (settingsOf k) (readOf d)) (d .sent .0) (k .u)
+        ∙ ap (λ (y : Desk). passing (settingsOf k) y .sent) g in
+        let after : effect at (passOn i) ≡ passingOn at i = effect-passOn at i ∙ passedOn-is at i in
+        step-done fl area (passOn i) (held k (record { answer = 0; clock = h .clock; waiting = count }) f (set p i (d′ .pass)) a l (set s i (d′ .sent .0)) x) area′
+        (fits ∙ room-passes (postAll waiting (broadcasts (member es) (h .clock + k .m) i (k .n) (k .u))) [] (subst (λ (c : ℕ). c ≤ mostNotes) (P .counted) full) ∙ first-none)
+        (sym (ap floorOf after ∙ turned fl sized area (ready .waiting) i (omega (arith, ready .desks)) (passing (settingsOf k)) (passingOn at i .notes)
+        ∙ floor-same (ap (λ (xs : List ℕ). length (postAll waiting xs)) (sym same-notes) ∙ sym (H .counted)) (set-getD f i false) (ap (λ (y : Desk). set p i (y .pass)) (sym o))
+        (set-getD a i 0) (set-getD l i 0) (ap (set s i) (sym marks)) (row-stays fl sized i (omega (arith, ready .desks)))))
+        (H .whole ∙ ap (λ (xs : List ℕ). laid (h .waiting) area (postAll waiting xs)) same-notes ∙ sym (ap (λ (z : State). laid (h .waiting) area (z .notes)) after))
+
+  -- ---- a false note, to desk j
+
+  module _ (j e t : ℕ) where
+    pub false-4 : k .n ≤ i → r ≡ record { answer = 4; clock = h .clock; waiting = h .waiting } → left k r f p a l s x area ≡ stepAt fl area (falseNote i j e t)
+    false-4 n q = refused k h r f p a l s x area (falseNote i j e t) 4 refl (answer-false at i j e t ∙ desk-fails at _ i n) q
+
+    module _ (n : i < k .n) where
+      pub false-4′ : k .n ≤ j → r ≡ record { answer = 4; clock = h .clock; waiting = h .waiting } → left k r f p a l s x area ≡ stepAt fl area (falseNote i j e t)
+      false-4′ n′ q = refused k h r f p a l s x area (falseNote i j e t) 4 refl (answer-false at i j e t ∙ desk-passes at _ i n ∙ desk-fails at _ j n′) q
+
+      module _ (n′ : j < k .n) where
+        pub false-5 : k .u ≤ e → r ≡ record { answer = 5; clock = h .clock; waiting = h .waiting } → left k r f p a l s x area ≡ stepAt fl area (falseNote i j e t)
+        false-5 u q =
+            refused k h r f p a l s x area (falseNote i j e t) 5 refl (answer-false at i j e t ∙ desk-passes at _ i n ∙ desk-passes at _ j n′ ∙ entry-fails at _ e u) q
+
+        module _ (u : e < k .u) (ready : Ready k h (length area)) (sized : Sized fl) where
+          mark : deskAt at i .faulty ≡ getD f i false
+          mark = ap (λ (d : Desk). d .faulty) (desk-at fl sized area i (omega (arith, ready .desks)))
+
+          named : answer at (falseNote i j e t) ≡
+              firstOf (8 when not (deskAt at i .faulty) ∷ 10 when (ltb t (h .clock) || ltb (newTimeOut at) t) ∷ noRoom (post waiting (noteOf t i j e)) ∷ [])
+          named = answer-false at i j e t ∙ desk-passes at _ i n ∙ desk-passes at _ j n′ ∙ entry-passes at _ e u
+
+          pub false-8 : not (getD f i false) ≡ true → r ≡ record { answer = 8; clock = h .clock; waiting = h .waiting } → left k r f p a l s x area ≡ stepAt fl area (falseNote i j e t)
+          false-8 b q = refused k h r f p a l s x area (falseNote i j e t) 8 refl (named ∙ first-fails 8 (not (deskAt at i .faulty)) _ (ap not mark ∙ b)) q
+
+          module _ (b : not (getD f i false) ≡ false) where
+            lies : answer at (falseNote i j e t) ≡ firstOf (10 when (ltb t (h .clock) || ltb (newTimeOut at) t) ∷ noRoom (post waiting (noteOf t i j e)) ∷ [])
+            lies = named ∙ first-passes 8 (not (deskAt at i .faulty)) _ (ap not mark ∙ b)
+
+            pub false-10 : t < h .clock → r ≡ record { answer = 10; clock = h .clock; waiting = h .waiting } → left k r f p a l s x area ≡ stepAt fl area (falseNote i j e t)
+            false-10 c q =
+                refused k h r f p a l s x area (falseNote i j e t) 10 refl
+                (lies ∙ first-fails 10 (ltb t (h .clock) || ltb (newTimeOut at) t) _ (or-left (ltb t (h .clock)) (ltb (newTimeOut at) t) (lt-ltb t (h .clock) c))) q
+
+            pub false-10′ : h .clock + k .m < t → r ≡ record { answer = 10; clock = h .clock; waiting = h .waiting } → left k r f p a l s x area ≡ stepAt fl area (falseNote i j e t)
+            false-10′ c q =
+                refused k h r f p a l s x area (falseNote i j e t) 10 refl
+                (lies ∙ first-fails 10 (ltb t (h .clock) || ltb (newTimeOut at) t) _ (or-right (ltb t (h .clock)) (ltb (newTimeOut at) t) (lt-ltb (newTimeOut at) t c))) q
+
+            module _ (low : h .clock ≤ t) (high : t ≤ h .clock + k .m) (note : ℕ) (is : note ≡ noteOf t i j e) (area′ : List ℕ) (count : ℕ)
+                (P : Posts (note ∷ []) (h .waiting) area area′ count) where
+              posted : postAll waiting (note ∷ []) ≡ post waiting (noteOf t i j e)
+              posted = postAll-one waiting note ∙ ap (post waiting) is
+
+              timely : answer at (falseNote i j e t) ≡ firstOf (noRoom (post waiting (noteOf t i j e)) ∷ [])
+              timely =
+                  lies ∙ first-passes 10 (ltb t (h .clock) || ltb (newTimeOut at) t) _
+                  (none-or (ltb t (h .clock)) (ltb (newTimeOut at) t) (le-ltb t (h .clock) low) (le-ltb (newTimeOut at) t high))
+
+              counts : count ≡ length (post waiting (noteOf t i j e))
+              counts = P .counted ∙ ap length posted
+
+              pub false-11 : mostNotes < count → r ≡ record { answer = 11; clock = h .clock; waiting = h .waiting } → left k r f p a l s x area′ ≡ stepAt fl area (falseNote i j e t)
+              false-11 full q =
+                  rw (posts-refused _ (h .waiting) area area′ count P (omega (arith, ready .exact)))
+                  (refused k h r f p a l s x area (falseNote i j e t) 11 refl (timely ∙ room-fails (post waiting (noteOf t i j e)) [] (subst (λ (c : ℕ). mostNotes < c) counts full)) q)
+
+              pub false-0 : count ≤ mostNotes → left k (record { answer = 0; clock = h .clock; waiting = count }) f p a l s x area′ ≡ stepAt fl area (falseNote i j e t)
+              false-0 full =
+                  let H : Holds (postAll waiting (note ∷ [])) (h .waiting) area area′ count = posts-holds _ (h .waiting) area area′ count P (omega (arith, ready .exact)) in
+                  step-done fl area (falseNote i j e t) (held k (record { answer = 0; clock = h .clock; waiting = count }) f p a l s x) area′
+                  (timely ∙ room-passes (post waiting (noteOf t i j e)) [] (subst (λ (c : ℕ). c ≤ mostNotes) counts full) ∙ first-none)
+                  (floor-same counts (sym (faulty-back fl sized)) (sym (pass-back fl sized)) (sym (accept-back fl sized)) (sym (listed-back fl sized)) (sym (sent-back fl sized)) (sym (received-back fl sized))
+                  ∙ sym (ap floorOf (effect-false at i j e t)))
+                  (H .whole ∙ ap (laid (h .waiting) area) posted ∙ sym (ap (λ (z : State). laid (h .waiting) area (z .notes)) (effect-false at i j e t)))

@@ -153,14 +153,6 @@ unfolding count
 count-not f zero = refl
 count-not f (suc k) = omega (arith, bit-not (f k), count-not f k)
 
--- looking at more numbers counts no fewer
-pub count-longer : (f : ℕ → Bool) (n k : ℕ) → n ≤ k → count f n ≤ count f k
-unfolding count
-count-longer f n zero h =
-    let none : n ≡ 0 = omega arith in
-    rw none (le-refl _)
-count-longer f n (suc k) h = ⊎-elim (λ e. rw e (le-refl _)) (λ l. omega (arith, count-longer f n k (le-of-suc-le-suc l))) (eq-or-lt-of-le h)
-
 -- the numbers from n on are not taken, so looking at more of them counts no more
 pub count-wider : (f : ℕ → Bool) (n d : ℕ) → ((i : ℕ) → n ≤ i → f i ≡ false) → count f (d + n) ≡ count f n
 unfolding count

@@ -1,3 +1,4 @@
+-- `actions::delay::delay_by` meets its contract. Assumes nothing.
 use lib.Seq.{length-take-le}
 use Prim.Native.Nat.{_≤_}
 use Rattle.actions.specs.Actions.{TimersFit}
@@ -5,54 +6,37 @@ use Rattle.actions.proofs.DelayMove.{timers-room, delay-14, delay-12, d
 use borrow.Author.Needs.{needs}
 use Rattle.actions.proofs.delay.delay_by.Statement.{statement}
 use Rattle.actions.proofs.delay.delay_by.Tie as tie
-use Rattle.actions.proofs.delay.delay_by.Reads as reads
-use Rattle.actions.proofs.delay.delay_by.Lts as lts
-use Rattle.actions.proofs.delay.go_on.Reads as go-on-reads
-use Rattle.actions.proofs.delay.timers_hold.Reads as timers-hold-reads
-use Rattle.actions.proofs.head.answered.Reads as answered-reads
-use Rattle.notes.proofs.none_past.Reads as none-past-reads
 
--- src/delay.rt:65:8
 sub-if1 : tie.Need-sub-if1
 sub-if1 c = search needs
 
--- src/delay.rt:66:9
 answered-requires : tie.Need-answered-requires
 answered-requires c κs = search needs
 
--- src/delay.rt:66:9
 returns : tie.Need-returns
 returns c = λ f l s x sized. search delay-14
 
--- src/delay.rt:68:17
 add-later : tie.Need-add-later
 add-later c = search needs
 
--- src/delay.rt:69:26
 slice-aggregate-none-past : tie.Need-slice-aggregate-none-past
 slice-aggregate-none-past c = search length-take-le
 
--- src/delay.rt:69:9
 none-past-requires : tie.Need-none-past-requires
 none-past-requires c κs = search needs
 
--- src/delay.rt:70:9
 answered-requires-2 : tie.Need-answered-requires-2
 answered-requires-2 c κs = search needs
 
--- src/delay.rt:70:9
 returns-2 : tie.Need-returns-2
 returns-2 c = λ f l s x sized. search delay-12
 
--- src/delay.rt:72:9
 timers-hold-requires : tie.Need-timers-hold-requires
 timers-hold-requires c κs = search needs
 
--- src/delay.rt:73:9
 answered-requires-3 : tie.Need-answered-requires-3
 answered-requires-3 c κs = search needs
 
--- src/delay.rt:73:9
 returns-3 : tie.Need-returns-3
 returns-3 c = λ f l s x sized.
     let looked = c .before .before in
@@ -62,11 +46,9 @@ returns-3 c = λ f l s x sized.
     delay-13 _ (start .args .head) _ f _ _ l s x _ _ (start .pre) (inside .if1 .left) _ (timely .before .none-past .ensures) (timely .if2 .left) sized _ (looked .timers-hold .ensures)
     (c .before .if3 .taken) (c .answered3 .ensures)
 
--- src/delay.rt:75:13
 cast-n : tie.Need-cast-n
 cast-n c = search needs
 
--- src/delay.rt:76:5
 -- the timers may go on, and so fit their words
 room : (c : tie.After-struct-known) → let start : tie.Start = c .before .before .before .before .before .before .before .before .before .before in
     ((start .args .settings .n ≤ 16) × TimersFit (start .args .settings .n) (start .args .t) (start .args .pass .now))
@@ -80,11 +62,9 @@ room c =
 go-on-requires : tie.Need-go-on-requires
 go-on-requires c κs = room (c .before) .0
 
--- src/delay.rt:77:5
 go-on-requires-2 : tie.Need-go-on-requires-2
 go-on-requires-2 c κs = room (c .before .before .before) .1
 
--- src/delay.rt:50:1
 returns-4 : tie.Need-returns-4
 returns-4 c = λ f l s x sized. search delay-0
 

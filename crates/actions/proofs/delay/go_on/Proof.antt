@@ -1,3 +1,4 @@
+-- `actions::delay::go_on` meets its contract. Assumes nothing.
 use mathlib.Core.Path.{_≡_}
 use Prim.Native.Nat.{_≤_, _-_}
 use native.Mathlib.Omega.{arith}
@@ -6,8 +7,6 @@ use Rattle.actions.specs.Actions.{laterBy}
 use Rattle.actions.proofs.DelayMove.{later-start, later-next, later-turn}
 use Rattle.actions.proofs.delay.go_on.Statement.{statement}
 use Rattle.actions.proofs.delay.go_on.Tie as tie
-use Rattle.actions.proofs.delay.go_on.Reads as reads
-use Rattle.actions.proofs.delay.go_on.Lts as lts
 
 abbrev Inv-loop : tie.InvT-loop
 Inv-loop timers₀ n t i₀ timers i = (i ≤ n) × (timers ≡ mapFirst i (laterBy t) timers₀)
@@ -15,43 +14,33 @@ Inv-loop timers₀ n t i₀ timers i = (i ≤ n) × (timers ≡ mapFirst i (late
 abbrev μ-loop : tie.MeasureT-loop
 μ-loop timers₀ n t i₀ timers i = n - i
 
--- src/delay.rt:44:5
 loop-holds : tie.Need-loop-holds Inv-loop μ-loop
 loop-holds c = (omega arith, later-start _ _)
 
--- src/delay.rt:45:21
 mul-timers : tie.Need-mul-timers Inv-loop μ-loop
 mul-timers c = omega arith
 
--- src/delay.rt:45:21
 element-copy-out-timers : tie.Need-element-copy-out-timers Inv-loop μ-loop
 element-copy-out-timers c = omega arith
 
--- src/delay.rt:45:21
 add-timers : tie.Need-add-timers Inv-loop μ-loop
 add-timers c = record { fits = rw (later-next _ _ _ _ (c .before .before .loop .inv .1)) (c .before .before .before .pre .1 _ (omega arith)) }
 
--- src/delay.rt:45:9
 mul-timers-2 : tie.Need-mul-timers-2 Inv-loop μ-loop
 mul-timers-2 c = omega arith
 
--- src/delay.rt:45:9
 element-write-timers : tie.Need-element-write-timers Inv-loop μ-loop
 element-write-timers c = omega arith
 
--- src/delay.rt:46:9
 add-i : tie.Need-add-i Inv-loop μ-loop
 add-i c = omega arith
 
--- src/delay.rt:44:5
 loop-less : tie.Need-loop-less Inv-loop μ-loop
 loop-less c = omega arith
 
--- src/delay.rt:44:5
 loop-again : tie.Need-loop-again Inv-loop μ-loop
 loop-again c = (omega arith, later-turn _ _ _ _ (c .before .before .loop .inv .1))
 
--- src/delay.rt:39:1
 returns : tie.Need-returns Inv-loop μ-loop
 returns c = let all : c .before .loop .i ≡ c .before .before .args .n = omega arith in rw all at (c .before .loop .inv .1)
 

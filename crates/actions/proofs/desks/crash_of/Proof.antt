@@ -1,45 +1,33 @@
+-- `actions::desks::crash_of` meets its contract. Assumes nothing.
 use Rattle.actions.proofs.DeskMoves.{crash-4, crash-7, crash-9, crash-0}
 use borrow.Author.Needs.{needs}
 use Rattle.actions.proofs.desks.crash_of.Statement.{statement}
 use Rattle.actions.proofs.desks.crash_of.Tie as tie
-use Rattle.actions.proofs.desks.crash_of.Reads as reads
-use Rattle.actions.proofs.desks.crash_of.Lts as lts
-use Rattle.actions.proofs.desks.count_faulty.Reads as count-faulty-reads
-use Rattle.actions.proofs.head.answered.Reads as answered-reads
 
--- src/desks.rt:125:9
 answered-requires : tie.Need-answered-requires
 answered-requires c κs = search needs
 
--- src/desks.rt:125:9
 returns : tie.Need-returns
 returns c = λ p a l s x area sized w. search crash-4
 
--- src/desks.rt:127:13
 cast-i : tie.Need-cast-i
 cast-i c = search needs
 
--- src/desks.rt:128:8
 element-copy-out-if2 : tie.Need-element-copy-out-if2
 element-copy-out-if2 c = search needs
 
--- src/desks.rt:129:9
 answered-requires-2 : tie.Need-answered-requires-2
 answered-requires-2 c κs = search needs
 
--- src/desks.rt:129:9
 returns-2 : tie.Need-returns-2
 returns-2 c = λ p a l s x area sized w. search crash-7
 
--- src/desks.rt:131:22
 count-faulty-requires : tie.Need-count-faulty-requires
 count-faulty-requires c κs = search needs
 
--- src/desks.rt:132:9
 answered-requires-3 : tie.Need-answered-requires-3
 answered-requires-3 c κs = search needs
 
--- src/desks.rt:132:9
 returns-3 : tie.Need-returns-3
 returns-3 c = λ p a l s x area sized w.
     let counted = c .before .before .before in
@@ -49,15 +37,12 @@ returns-3 c = λ p a l s x area sized w.
     crash-9 _ (start .args .head) _ _ p a l s x area _ sized w (start .pre) (inside .if1 .left) (good .if2 .left) _ (counted .count-faulty .ensures) (c .before .if3 .taken)
     (c .answered3 .ensures)
 
--- src/desks.rt:134:5
 element-write-faulty : tie.Need-element-write-faulty
 element-write-faulty c = search needs
 
--- src/desks.rt:135:5
 answered-requires-4 : tie.Need-answered-requires-4
 answered-requires-4 c κs = search needs
 
--- src/desks.rt:119:1
 returns-4 : tie.Need-returns-4
 returns-4 c = λ p a l s x area sized w.
     let counted = c .before .before .before in

@@ -1,48 +1,36 @@
+-- `actions::desks::hear` meets its contract. Assumes nothing.
 use Rattle.actions.proofs.DeskMoves.{heard}
 use borrow.Author.Needs.{needs}
 use Rattle.actions.proofs.desks.hear.Statement.{statement}
 use Rattle.actions.proofs.desks.hear.Tie as tie
-use Rattle.actions.proofs.desks.hear.Reads as reads
-use Rattle.actions.proofs.desks.hear.Lts as lts
-use Rattle.sets.proofs.DeskSet.with.Reads as with-reads
 
--- src/desks.rt:54:20
 cast-at : tie.Need-cast-at
 cast-at c = search needs
 
--- src/desks.rt:54:14
 mul-at : tie.Need-mul-at
 mul-at c = search needs
 
--- src/desks.rt:54:40
 cast-at-2 : tie.Need-cast-at-2
 cast-at-2 c = search needs
 
--- src/desks.rt:54:14
 add-at : tie.Need-add-at
 add-at c = search needs
 
--- src/desks.rt:55:27
 mul-t7 : tie.Need-mul-t7
 mul-t7 c = search needs
 
--- src/desks.rt:55:27
 element-copy-out-t12 : tie.Need-element-copy-out-t12
 element-copy-out-t12 c = search needs
 
--- src/desks.rt:56:20
 with-requires : tie.Need-with-requires
 with-requires c κs = search needs
 
--- src/desks.rt:56:5
 mul-received : tie.Need-mul-received
 mul-received c = search needs
 
--- src/desks.rt:56:5
 element-write-received : tie.Need-element-write-received
 element-write-received c = search needs
 
--- src/desks.rt:50:1
 returns : tie.Need-returns
 returns c = rw (heard _ _ _ (c .with .ensures) (c .before .before .before .before .pre .2))
 

@@ -1,88 +1,65 @@
+-- `actions::desks::receive_by` meets its contract. Assumes nothing.
 use Rattle.actions.proofs.DeskMoves.{receive-4, receive-4′, receive-5, receive-6, receive-0}
 use lib.Seq.{length-take-le}
 use Rattle.notes.proofs.ReceiveLaws.{receive-place}
 use borrow.Author.Needs.{needs}
 use Rattle.actions.proofs.desks.receive_by.Statement.{statement}
 use Rattle.actions.proofs.desks.receive_by.Tie as tie
-use Rattle.actions.proofs.desks.receive_by.Reads as reads
-use Rattle.actions.proofs.desks.receive_by.Lts as lts
-use Rattle.actions.proofs.desks.hear.Reads as hear-reads
-use Rattle.actions.proofs.head.answered.Reads as answered-reads
-use Rattle.notes.proofs.earliest.Reads as earliest-reads
-use Rattle.notes.proofs.take_out.Reads as take-out-reads
 
--- src/desks.rt:74:9
 answered-requires : tie.Need-answered-requires
 answered-requires c κs = search needs
 
--- src/desks.rt:74:9
 returns : tie.Need-returns
 returns c = λ f p a l s sized. search receive-4
 
--- src/desks.rt:77:9
 answered-requires-2 : tie.Need-answered-requires-2
 answered-requires-2 c κs = search needs
 
--- src/desks.rt:77:9
 returns-2 : tie.Need-returns-2
 returns-2 c = λ f p a l s sized. search receive-4′
 
--- src/desks.rt:80:9
 answered-requires-3 : tie.Need-answered-requires-3
 answered-requires-3 c κs = search needs
 
--- src/desks.rt:80:9
 returns-3 : tie.Need-returns-3
 returns-3 c = λ f p a l s sized. search receive-5
 
--- src/desks.rt:83:33
 slice-reshare-prefix-earliest : tie.Need-slice-reshare-prefix-earliest
 slice-reshare-prefix-earliest c = search needs
 
--- src/desks.rt:83:33
 slice-aggregate-earliest : tie.Need-slice-aggregate-earliest
 slice-aggregate-earliest c = search length-take-le
 
--- src/desks.rt:83:9
 earliest-requires : tie.Need-earliest-requires
 earliest-requires c κs = search needs
 
--- src/desks.rt:85:19
 enum-known-found : tie.Need-enum-known-found
 enum-known-found c = search needs
 
--- src/desks.rt:86:17
 take-out-requires : tie.Need-take-out-requires
 take-out-requires c κs =
     let searched = c .before .before .before .before in
     let start = searched .before .before .before .before .before .before .before .before .before .before .before .before in
     receive-place _ _ _ _ _ _ (start .pre .waiting) (searched .earliest .ensures) _ (c .before .before .found .given .1)
 
--- src/desks.rt:87:13
 hear-requires : tie.Need-hear-requires
 hear-requires c κs = search needs
 
--- src/desks.rt:94:27
 enum-told : tie.Need-enum-told
 enum-told c = search needs
 
--- src/desks.rt:94:27
 answered-requires-4 : tie.Need-answered-requires-4
 answered-requires-4 c κs = search needs
 
--- src/desks.rt:59:1
 same-length : tie.Need-same-length
 same-length c = search needs
 
--- src/desks.rt:59:1
 returns-4 : tie.Need-returns-4
 returns-4 c = λ f p a l s sized. search receive-0
 
--- src/desks.rt:59:1
 same-length-2 : tie.Need-same-length-2
 same-length-2 c = search needs
 
--- src/desks.rt:59:1
 returns-5 : tie.Need-returns-5
 returns-5 c = λ f p a l s sized. search receive-6
 

@@ -1,56 +1,42 @@
+-- `actions::desks::reset_by` meets its contract. Assumes nothing.
 use Rattle.actions.proofs.DeskMoves.{reset-4, reset-8, reset-0}
 use borrow.Author.Needs.{needs}
 use Rattle.actions.proofs.desks.reset_by.Statement.{statement}
 use Rattle.actions.proofs.desks.reset_by.Tie as tie
-use Rattle.actions.proofs.desks.reset_by.Reads as reads
-use Rattle.actions.proofs.desks.reset_by.Lts as lts
-use Rattle.actions.proofs.head.answered.Reads as answered-reads
 
--- src/desks.rt:152:9
 answered-requires : tie.Need-answered-requires
 answered-requires c κs = search needs
 
--- src/desks.rt:152:9
 returns : tie.Need-returns
 returns c = λ l s x area sized w. search reset-4
 
--- src/desks.rt:154:13
 cast-i : tie.Need-cast-i
 cast-i c = search needs
 
--- src/desks.rt:155:9
 element-copy-out-if2 : tie.Need-element-copy-out-if2
 element-copy-out-if2 c = search needs
 
--- src/desks.rt:156:9
 answered-requires-2 : tie.Need-answered-requires-2
 answered-requires-2 c κs = search needs
 
--- src/desks.rt:156:9
 returns-2 : tie.Need-returns-2
 returns-2 c = λ l s x area sized w. search reset-8
 
--- src/desks.rt:158:5
 mul-pass : tie.Need-mul-pass
 mul-pass c = search needs
 
--- src/desks.rt:158:5
 element-write-pass : tie.Need-element-write-pass
 element-write-pass c = search needs
 
--- src/desks.rt:159:5
 mul-accept : tie.Need-mul-accept
 mul-accept c = search needs
 
--- src/desks.rt:159:5
 element-write-accept : tie.Need-element-write-accept
 element-write-accept c = search needs
 
--- src/desks.rt:160:5
 answered-requires-3 : tie.Need-answered-requires-3
 answered-requires-3 c κs = search needs
 
--- src/desks.rt:138:1
 returns-3 : tie.Need-returns-3
 returns-3 c = λ l s x area sized w. search reset-0
 
