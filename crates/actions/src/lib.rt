@@ -1,2 +1,3 @@
 // One action on a floor: the shape check, opening, and the step that every run is made of.
 pub mod head;
+pub mod shape;
