@@ -11,7 +11,7 @@ use lib.Seq.{length-take-le, take-all}
 use borrow.Author.Tests.{not-true, not-false, le-leb, leb-true, le-ltb}
 use Rattle.sets.specs.Counting.{bit, count}
 use Rattle.sets.specs.Sets.{allBelow}
-use Rattle.sets.proofs.Tests.{decided, le-or-lt, and-left, cond-false, AllTrue, apart}
+use Rattle.sets.proofs.Tests.{decided, le-or-lt, and-left, cond-false, every-first, AllTrue, apart}
 use Rattle.sets.proofs.CountLaws.{count-zero, count-step, count-le, count-ext, count-wider}
 use Rattle.rules.specs.Rules as rules
 use Rattle.rules.specs.Rules.{Desk, mostNotes, lastTick, deskAt, everyNote, everyBelow, faults, noteInShape, deskInShape, zeroDesk, placeInShape, withinLimits}
@@ -21,10 +21,10 @@ use Rattle.rules.proofs.Shapes as shapes
 use Rattle.rules.proofs.Shapes.{Limits, nothing, zero-is, place-is, shape-is}
 use Rattle.notes.specs.Area.{limits}
 use Rattle.notes.proofs.ScanLaws.{shape-limits}
-use Rattle.floors.specs.Bridge.{settingsOf, rowOf, deskOf, stateOf, Sized}
+use Rattle.floors.specs.Bridge.{settingsOf, deskOf, stateOf, Sized}
 use Rattle.floors.specs.declared.Settings.{Settings}
 use Rattle.floors.specs.declared.Floor.{Floor}
-use Rattle.floors.proofs.Bridge.{desk-at}
+use Rattle.floors.proofs.Bridge.{floor, desk-at}
 use Rattle.actions.specs.Actions.{inShapeAt}
 
 -- ---- a place
@@ -33,11 +33,11 @@ use Rattle.actions.specs.Actions.{inShapeAt}
 abbrev pub noLimits : Settings
 noLimits = record { n = 0; f = 0; u = 0; m = 0; p = 0; a = 0 }
 
-pub limits-small : (k most : Settings) (inside : Bool) → most ≡ cond inside k noLimits → k .u ≤ 64 → most .u ≤ 64
-limits-small k most true e h = rw e h
-limits-small k most false e h = rw e zero-le
+pub limits-fit : (k most : Settings) (inside : Bool) → most ≡ cond inside k noLimits → k .u ≤ 64 → most .u ≤ 64
+limits-fit k most true e h = rw e h
+limits-fit k most false e h = rw e zero-le
 
--- the rest of a row from u on, as a part of it
+-- `here` and `past` are what the calls answered
 pub row-by : (row : List ℕ) (n u : ℕ) (here past : Bool) → here ≡ everyNote (allBelow n) (take u row) → past ≡ everyNote (allBelow 0) (take (length row - u) (drop u row))
     → (here && past) ≡ (everyNote (allBelow n) (take u row) && everyNote (allBelow 0) (drop u row))
 row-by row n u here past p q =
@@ -51,19 +51,15 @@ module _ (d : Desk) where
       → (leb (d .pass) (k .p) && leb (d .accept) (k .a) && l && s && r) ≡ deskInShape k d
   within k l s r hu long el es er = rw (el, es, er, sym (sets-are k d hu long)) (sym (desk-is k d))
 
-  after : (f p a l s r : Bool) → (f && p && a && l && s && r) ≡ (f && (p && a && l && s && r))
-  after true p a l s r = refl
-  after false p a l s r = refl
-
   pub place-by : (k most : Settings) (inside l s r : Bool) → most ≡ cond inside k noLimits → k .u ≤ 64 → length (d .received) ≡ 64
       → l ≡ allBelow (most .u) (d .listed) → s ≡ allBelow (most .u) (d .sent)
       → r ≡ (everyNote (allBelow (most .n)) (take (most .u) (d .received)) && everyNote (allBelow 0) (drop (most .u) (d .received)))
       → ((inside || not (d .faulty)) && leb (d .pass) (most .p) && leb (d .accept) (most .a) && l && s && r) ≡ cond inside (deskInShape (settingsOf k) d) (zeroDesk d)
   place-by k most true l s r e hu long el es er =
-      within (settingsOf most) l s r (limits-small k most true e hu) long el es er ∙ ap (λ (m : Settings). deskInShape (settingsOf m) d) e
+      within (settingsOf most) l s r (limits-fit k most true e hu) long el es er ∙ ap (λ (m : Settings). deskInShape (settingsOf m) d) e
   place-by k most false l s r e hu long el es er =
-      after (not (d .faulty)) (leb (d .pass) (most .p)) (leb (d .accept) (most .a)) l s r
-      ∙ ap (λ (b : Bool). not (d .faulty) && b) (within (settingsOf most) l s r (limits-small k most false e hu) long el es er ∙ ap (λ (m : Settings). deskInShape (settingsOf m) d) e)
+      every-first (not (d .faulty)) (leb (d .pass) (most .p) ∷ leb (d .accept) (most .a) ∷ l ∷ s ∷ r ∷ [])
+      ∙ ap (λ (b : Bool). not (d .faulty) && b) (within (settingsOf most) l s r (limits-fit k most false e hu) long el es er ∙ ap (λ (m : Settings). deskInShape (settingsOf m) d) e)
       ∙ sym (zero-is d)
 
 -- ---- the walk over the desks
@@ -152,7 +148,7 @@ fitting fl limited = limited && leb (fl .clock) lastTick && leb (fl .waiting) mo
 module _ (fl : Floor) (area : List ℕ) where
   -- the desks are looked at without the clock and the notes
   abbrev desksAlone : rules.State
-  desksAlone = stateOf (record { settings = fl .settings; clock = 0; waiting = 0; faulty = fl .faulty; pass = fl .pass; accept = fl .accept; listed = fl .listed; sent = fl .sent; received = fl .received }) []
+  desksAlone = stateOf (floor (fl .settings) 0 0 (fl .faulty) (fl .pass) (fl .accept) (fl .listed) (fl .sent) (fl .received)) []
 
   alone : everyBelow (placeInShape desksAlone) 16 ≡ everyBelow (placeInShape (stateOf fl area)) 16
   alone = below-ext (placeInShape desksAlone) (placeInShape (stateOf fl area)) 16 (λ i l. place-is desksAlone i ∙ sym (place-is (stateOf fl area) i))
@@ -169,6 +165,7 @@ module _ (fl : Floor) (area : List ℕ) where
   unfolding inShapeAt
   shape-at = ap (λ (b : Bool). leb (fl .waiting) mostNotes && b) (shape-is (stateOf fl area))
 
+  -- a test that fails, and none that does
   out-of : (w c l x n p f : Bool) → (w && c && l) ≡ false → false ≡ (l && (w && c && x && n && p && f))
   out-of w c false x n p f h = refl
   out-of false c true x n p f h = refl

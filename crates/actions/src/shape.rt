@@ -55,7 +55,7 @@ fn limits_of(settings: Settings, inside: bool) -> Settings
     }
 }
 
-// Whether a desk with these parts may stand inside, below n, or past n, where it has to be all zero.
+// Whether a desk with these parts is in shape: one inside, below n, keeps the limits, any other is all zero.
 fn place_in_shape(
     settings: Settings,
     inside: bool,
@@ -81,7 +81,7 @@ fn place_in_shape(
         & row_in_shape(row, most.n, most.u)
 }
 
-// Whether every desk may stand at its place, and at most f are faulty.
+// Whether every desk is in shape at its place, and at most f are faulty. Neither the clock nor the notes have a part in it.
 fn desks_in_shape(
     settings: Settings,
     faulty: &[bool; 16],
@@ -123,7 +123,7 @@ fn desks_in_shape(
     ok & (bad <= settings.f)
 }
 
-// Whether a floor with these parts is in shape.
+// Whether the floor with these parts is in shape. What its limits do not allow is out of shape whatever else it has.
 pub fn in_shape(
     settings: Settings,
     clock: u32,

@@ -1,4 +1,4 @@
--- A desk in shape: the test as a record of bounds, and that each change of a desk keeps it. Nobody else unfolds `deskInShape` and
+-- A desk in shape: the test as a record of bounds, its sets by lists, and that each change of a desk keeps it. Nobody else unfolds `deskInShape` and
 -- `setInShape`. Assumes nothing.
 use mathlib.Core.Path.{_≡_, refl, sym, ap, ap₂, _∙_}
 use mathlib.Core.Bool.{Bool, true, cond, _&&_}

@@ -1,7 +1,7 @@
 -- A floor in shape: the test as a record, the fresh floor has it, and every move keeps it. Nobody else unfolds `inShape`, `placeInShape`,
 -- `zeroDesk` and `withinLimits`. Assumes nothing.
 use mathlib.Core.Path.{_≡_, refl, sym, ap, _∙_}
-use mathlib.Core.Bool.{Bool, true, false, not, cond, _&&_}
+use mathlib.Core.Bool.{Bool, true, not, cond, _&&_}
 use mathlib.Core.Logic.{_⊎_, ⊎-elim}
 use mathlib.Core.List.{List, [], _∷_}
 use Prim.Native.Nat.{ℕ, zero, suc, _+_, _*_, _/_, _^_, _≤_, _<_, zero-le}
@@ -11,7 +11,7 @@ use lib.Dec.{leb, ltb, eqb}
 use lib.ListN.{length}
 use borrow.Author.Tests.{lt-ltb, le-ltb, le-leb, lt-leb, leb-true, ne-eqb}
 use Rattle.sets.specs.Sets.{allBelow}
-use Rattle.sets.proofs.Tests.{apart, cond-true, cond-false}
+use Rattle.sets.proofs.Tests.{every-first, apart, cond-true, cond-false}
 use Rattle.sets.proofs.Word.{below-is}
 use Rattle.sets.proofs.CountLaws.{count-mono, count-but-one}
 use Rattle.rules.specs.Rules.{Settings, Desk, State, from1to, withinLimits, lastTick, mostNotes, noDesk, deskAt, sources, withDesk, withNotes}
@@ -73,17 +73,13 @@ pub zero-is : (d : Desk) → zeroDesk d ≡ (not (d .faulty) && deskInShape noth
 unfolding zeroDesk
 zero-is d =
     rw (zero-leb (d .pass), zero-leb (d .accept), zero-set (d .listed), zero-set (d .sent), sets)
-    (after (not (d .faulty)) (leb (d .pass) 0) (leb (d .accept) 0) (allBelow 0 (d .listed)) (allBelow 0 (d .sent)) (everyBelow (setInShape nothing d) 64)
+    (every-first (not (d .faulty)) (leb (d .pass) 0 ∷ leb (d .accept) 0 ∷ allBelow 0 (d .listed) ∷ allBelow 0 (d .sent) ∷ everyBelow (setInShape nothing d) 64 ∷ [])
     ∙ ap (λ (b : Bool). not (d .faulty) && b) (sym (desk-is nothing d)))
   where
     sets : everyBelow (λ e. eqb (sources d e) 0) 64 ≡ everyBelow (setInShape nothing d) 64
     sets =
         below-ext (λ e. eqb (sources d e) 0) (setInShape nothing d) 64
         (λ e l. zero-set (sources d e) ∙ ap (λ (most : ℕ). allBelow most (sources d e)) (sym (cond-false (ltb e 0) 0 0 (le-ltb e 0 zero-le))) ∙ sym (set-is nothing d e))
-
-    after : (f p a l s r : Bool) → (f && p && a && l && s && r) ≡ (f && (p && a && l && s && r))
-    after true p a l s r = refl
-    after false p a l s r = refl
 
 -- ---- the floor
 

@@ -1,6 +1,6 @@
 -- `actions::shape::place_in_shape` meets its contract. Assumes nothing.
 use borrow.Author.Needs.{needs}
-use Rattle.actions.proofs.ShapeLaws.{limits-small, place-by}
+use Rattle.actions.proofs.ShapeLaws.{limits-fit, place-by}
 use Rattle.actions.proofs.shape.place_in_shape.Statement.{statement}
 use Rattle.actions.proofs.shape.place_in_shape.Tie as tie
 
@@ -17,7 +17,7 @@ row-in-shape-requires : tie.Need-row-in-shape-requires
 row-in-shape-requires c κs =
     let L = c .before .before .before .before in
     let S = L .before .before in
-    (limits-small (S .args .settings) _ (S .args .inside) (L .limits-of .ensures) (S .pre .0), S .pre .1)
+    (limits-fit (S .args .settings) _ (S .args .inside) (L .limits-of .ensures) (S .pre .0), S .pre .1)
 
 returns : tie.Need-returns
 returns c =
