@@ -3,3 +3,4 @@ pub mod head;
 pub mod desks;
 pub mod delay;
 pub mod sending;
+pub mod shape;

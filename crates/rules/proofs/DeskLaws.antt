@@ -1,10 +1,10 @@
 -- Laws of the list of desks: one desk is put in the place of another, or each of the first n changes. Assumes nothing.
-use mathlib.Core.Path.{_≡_, refl, sym, ap, ap₂, subst}
-use mathlib.Core.Bool.{Bool, true, _&&_}
+use mathlib.Core.Path.{_≡_, refl, sym, ap, ap₂, _∙_, subst}
+use mathlib.Core.Bool.{Bool, true, _&&_, and-assoc, and-true}
 use mathlib.Core.Logic.{_⊎_, inl, inr, ⊎-elim, _≢_}
 use mathlib.Core.List.{List, [], _∷_}
 use Prim.Native.Nat.{ℕ, zero, suc, _+_, _≤_, _<_}
-use native.Mathlib.Nat.{eq-or-lt-of-le, le-of-suc-le-suc, not-suc-le-zero}
+use native.Mathlib.Nat.{eq-or-lt-of-le, le-of-suc-le-suc, not-suc-le-zero, zero-add, suc-add}
 use native.Mathlib.Numerals.{add-one}
 use native.Mathlib.Decide.{ℕ-discrete}
 use native.Mathlib.Omega.{arith}
@@ -94,6 +94,14 @@ module _ (test : ℕ → Bool) where
   unfolding everyBelow
   each-below zero h = refl
   each-below (suc k) h = and-both (everyBelow test k) (test k) (each-below k (λ i l. h i (omega arith))) (h k (omega arith))
+
+  -- those below k, and the next d
+  pub below-more : (k d : ℕ) → everyBelow test (d + k) ≡ (everyBelow test k && everyBelow (λ i. test (i + k)) d)
+  unfolding everyBelow
+  below-more k zero = ap (everyBelow test) (zero-add k) ∙ sym (and-true (everyBelow test k))
+  below-more k (suc d) =
+      ap (everyBelow test) (suc-add d k) ∙ ap (λ (b : Bool). b && test (d + k)) (below-more k d)
+      ∙ and-assoc (everyBelow test k) (everyBelow (λ i. test (i + k)) d) (test (d + k))
 
 -- tests that agree below k
 pub below-same : (p q : ℕ → Bool) (k : ℕ) → ((i : ℕ) → i < k → p i ≡ q i) → everyBelow p k ≡ everyBelow q k

@@ -1,21 +1,23 @@
 -- A floor in shape: the test as a record, the fresh floor has it, and every move keeps it. Nobody else unfolds `inShape`, `placeInShape`,
 -- `zeroDesk` and `withinLimits`. Assumes nothing.
-use mathlib.Core.Path.{_≡_, sym, ap, _∙_}
-use mathlib.Core.Bool.{Bool, true, cond, _&&_}
+use mathlib.Core.Path.{_≡_, refl, sym, ap, _∙_}
+use mathlib.Core.Bool.{Bool, true, not, cond, _&&_}
 use mathlib.Core.Logic.{_⊎_, ⊎-elim}
 use mathlib.Core.List.{List, [], _∷_}
-use Prim.Native.Nat.{ℕ, _+_, _*_, _≤_, _<_}
+use Prim.Native.Nat.{ℕ, zero, suc, _+_, _*_, _/_, _^_, _≤_, _<_, zero-le}
 use native.Mathlib.Nat.{le-trans}
 use native.Mathlib.Omega.{arith}
-use lib.Dec.{leb, ltb}
+use lib.Dec.{leb, ltb, eqb}
 use lib.ListN.{length}
-use borrow.Author.Tests.{lt-ltb, le-leb, leb-true}
-use Rattle.sets.proofs.Tests.{apart, cond-true}
+use borrow.Author.Tests.{lt-ltb, le-ltb, le-leb, lt-leb, leb-true, ne-eqb}
+use Rattle.sets.specs.Sets.{allBelow}
+use Rattle.sets.proofs.Tests.{every-first, apart, cond-true, cond-false}
+use Rattle.sets.proofs.Word.{below-is}
 use Rattle.sets.proofs.CountLaws.{count-mono, count-but-one}
-use Rattle.rules.specs.Rules.{Settings, Desk, State, from1to, withinLimits, lastTick, mostNotes, noDesk, deskAt, withDesk, withNotes}
-use Rattle.rules.specs.Rules.{everyNote, everyBelow, faults, noteInShape, deskInShape, zeroDesk, placeInShape, inShape}
-use Rattle.rules.proofs.DeskLaws.{set-change, desk-change, desk-other, below-each, each-below}
-use Rattle.rules.proofs.DeskShapes.{DeskShape, desk-shape, shape-desk}
+use Rattle.rules.specs.Rules.{Settings, Desk, State, from1to, withinLimits, lastTick, mostNotes, noDesk, deskAt, sources, withDesk, withNotes}
+use Rattle.rules.specs.Rules.{everyNote, everyBelow, faults, noteInShape, setInShape, deskInShape, zeroDesk, placeInShape, inShape}
+use Rattle.rules.proofs.DeskLaws.{set-change, desk-change, desk-other, below-each, each-below, below-same}
+use Rattle.rules.proofs.DeskShapes.{DeskShape, desk-shape, shape-desk, desk-is, set-is}
 
 -- ---- the settings
 
@@ -53,6 +55,32 @@ limits k h =
       a = from-to 65535 (k .a) a;
     }
 
+-- ---- a desk that is all zero
+
+-- limits that allow nothing
+abbrev pub nothing : Settings
+nothing = record { n = 0; f = 0; u = 0; m = 0; p = 0; a = 0 }
+
+zero-leb : (x : ℕ) → eqb x 0 ≡ leb x 0
+zero-leb zero = refl
+zero-leb (suc x) = ne-eqb (suc x) 0 (λ e. omega arith) ∙ sym (lt-leb (suc x) 0 (omega arith))
+
+zero-set : (x : ℕ) → eqb x 0 ≡ allBelow 0 x
+zero-set x = ap (λ (q : ℕ). eqb q 0) (let q : x ≡ x / 2 ^ 0 = omega arith in q) ∙ below-is x 0
+
+-- it is not faulty, and has nothing
+pub zero-is : (d : Desk) → zeroDesk d ≡ (not (d .faulty) && deskInShape nothing d)
+unfolding zeroDesk
+zero-is d =
+    rw (zero-leb (d .pass), zero-leb (d .accept), zero-set (d .listed), zero-set (d .sent), sets)
+    (every-first (not (d .faulty)) (leb (d .pass) 0 ∷ leb (d .accept) 0 ∷ allBelow 0 (d .listed) ∷ allBelow 0 (d .sent) ∷ everyBelow (setInShape nothing d) 64 ∷ [])
+    ∙ ap (λ (b : Bool). not (d .faulty) && b) (sym (desk-is nothing d)))
+  where
+    sets : everyBelow (λ e. eqb (sources d e) 0) 64 ≡ everyBelow (setInShape nothing d) 64
+    sets =
+        below-same (λ e. eqb (sources d e) 0) (setInShape nothing d) 64
+        (λ e l. zero-set (sources d e) ∙ ap (λ (most : ℕ). allBelow most (sources d e)) (sym (cond-false (ltb e 0) 0 0 (le-ltb e 0 zero-le))) ∙ sym (set-is nothing d e))
+
 -- ---- the floor
 
 -- desk d may stand at place i
@@ -88,6 +116,21 @@ module _ (s : State) where
         desks = below-each (placeInShape s) 16 desks;
         few = leb-true (faults s) (s .settings .f) few;
       }
+
+  -- the tests, for code that makes them
+  pub shape-is : inShape s
+      ≡ (withinLimits (s .settings)
+      && leb (s .clock) lastTick
+      && leb (length (s .notes)) mostNotes
+      && everyNote (noteInShape (s .settings) (s .clock)) (s .notes)
+      && everyBelow (placeInShape s) 16
+      && leb (faults s) (s .settings .f))
+  unfolding inShape
+  shape-is = refl
+
+  pub place-is : (i : ℕ) → placeInShape s i ≡ cond (ltb i (s .settings .n)) (deskInShape (s .settings) (deskAt s i)) (zeroDesk (deskAt s i))
+  unfolding placeInShape
+  place-is i = refl
 
   pub in-shape : Shape s → inShape s ≡ true
   unfolding inShape placeInShape

@@ -83,6 +83,15 @@ joined-from : (sofar : Bool) (bs : List Bool) → sofar ≡ true → AllTrue bs 
 joined-from sofar [] e h = e
 joined-from sofar (b ∷ bs) e h = joined-from (sofar && b) bs (and-both sofar b e (h .0)) (h .1)
 
+every-false : (bs : List Bool) → every false bs ≡ false
+every-false [] = refl
+every-false (b ∷ bs) = every-false bs
+
+-- the first test, and the others
+pub every-first : (b : Bool) (bs : List Bool) → every b bs ≡ (b && every true bs)
+every-first true bs = refl
+every-first false bs = every-false bs
+
 pub apart : (bs : List Bool) → every true bs ≡ true → AllTrue bs
 apart bs e = apart-from true bs e .1
 
