@@ -13,11 +13,11 @@ use borrow.Author.Tests.{le-leb, lt-leb, leb-true, ltb-true, ltb-false}
 use Rattle.sets.specs.Sets.{member, size}
 use Rattle.sets.proofs.CountLaws.{count-le}
 use Rattle.sets.proofs.Tests.{le-or-lt, or-none, cond-true, cond-false}
-use Rattle.rules.specs.Rules.{waits, post, postAll}
+use Rattle.rules.specs.Rules.{waits, post, postAll, broadcast, broadcasts}
 use Rattle.rules.proofs.PostLaws.{postAll-one}
 use Rattle.notes.specs.Area.{Holds, Room, Posts, newCount}
 use Rattle.notes.proofs.AreaLaws.{holds-notes, holds-length}
-use Rattle.notes.proofs.NewCountLaws.{after-post}
+use Rattle.notes.proofs.NewCountLaws.{new-broadcast-le, new-in-set-le, count-broadcast, count-broadcasts, after-post}
 
 -- ---- what an action left
 module _ (xs : List ℕ) (w : ℕ) (area left : List ℕ) (count : ℕ) (P : Posts xs w area left count) where
@@ -86,32 +86,55 @@ module _ (w : ℕ) (area : List ℕ) (x : ℕ) (b : Bool) (h : w ≤ length area
       (omega (arith, ltb-false w (length area) (or-none b (ltb w (length area)) f .1)))
       (rw (postAll-one (take w area) x, after-post w area h x b ans, or-none b (ltb w (length area)) f .0))
 
--- ---- a list of which at most so many notes are new: they are counted only where so many may have no room
-module _ (xs : List ℕ) (w : ℕ) (area : List ℕ) (most new : ℕ) (h : w ≤ length area) (few : newCount (take w area) xs ≤ most)
-    (adds : length (postAll (take w area) xs) ≡ length (take w area) + newCount (take w area) xs)
-    (c : new ≡ cond (leb most (length area - w)) 0 (newCount (take w area) xs)) where
-  after : length (postAll (take w area) xs) ≡ w + newCount (take w area) xs
-  after = rw (length-take-le w area h) at adds
+-- ---- a list of which at most so many notes are new. They are counted only where so many may have no room; `new` is then their count, and
+-- otherwise 0.
+pub record Tight (xs : List ℕ) (w : ℕ) (area : List ℕ) (most new : ℕ) : Type 0 where
+  pub stand : w ≤ length area
+  pub few : newCount (take w area) xs ≤ most
+  pub adds : length (postAll (take w area) xs) ≡ w + newCount (take w area) xs
+  pub counted : new ≡ cond (leb most (length area - w)) 0 (newCount (take w area) xs)
 
+module _ (w : ℕ) (area : List ℕ) (h : w ≤ length area) (t i n new : ℕ) where
+  pub broadcast-tight : (e : ℕ) → new ≡ cond (leb n (length area - w)) 0 (newCount (take w area) (broadcast t i e n))
+      → Tight (broadcast t i e n) w area n new
+  broadcast-tight e c =
+      record {
+        stand = h;
+        few = new-broadcast-le (take w area) t i e n;
+        adds = rw (length-take-le w area h) at (count-broadcast (take w area) t i e n);
+        counted = c;
+      }
+
+  pub broadcasts-tight : (es u : ℕ) → u ≤ 64 → new ≡ cond (leb (size 64 es * n) (length area - w)) 0 (newCount (take w area) (broadcasts (member es) t i n u))
+      → Tight (broadcasts (member es) t i n u) w area (size 64 es * n) new
+  broadcasts-tight es u l c =
+      record {
+        stand = h;
+        few = new-in-set-le (take w area) es t i n u l;
+        adds = rw (length-take-le w area h) at (count-broadcasts (take w area) (member es) t i n u (omega arith));
+        counted = c;
+      }
+
+module _ (xs : List ℕ) (w : ℕ) (area : List ℕ) (most new : ℕ) (K : Tight xs w area most new) where
   -- whether they were counted
   by : {A : Type 0} → (most ≤ length area - w → new ≡ 0 → A) → (new ≡ newCount (take w area) xs → A) → A
   by {A} all counted = go (leb most (length area - w)) refl
     where
       go : (b : Bool) → leb most (length area - w) ≡ b → A
-      go true e = all (leb-true most (length area - w) e) (c ∙ cond-true (leb most (length area - w)) _ _ e)
-      go false e = counted (c ∙ cond-false (leb most (length area - w)) _ _ e)
+      go true e = all (leb-true most (length area - w) e) (K .counted ∙ cond-true (leb most (length area - w)) _ _ e)
+      go false e = counted (K .counted ∙ cond-false (leb most (length area - w)) _ _ e)
 
   pub tight-most : new ≤ most
-  tight-most = by (λ _ z. omega arith) (λ n. omega arith)
+  tight-most = by (λ _ z. omega arith) (λ n. omega (arith, K .few))
 
   pub tight-room : new ≤ length area - w → Room (postAll (take w area) xs) w area
-  tight-room l = record { stand = h; fit = by (λ a _. omega (arith, after)) (λ n. omega (arith, after)) }
+  tight-room l = record { stand = K .stand; fit = by (λ a _. omega (arith, K)) (λ n. omega (arith, K)) }
 
   pub tight-posts : new ≤ length area - w → (left : List ℕ) (count : ℕ) → Holds (postAll (take w area) xs) w area left count → Posts xs w area left count
   tight-posts l left count H = holds-posts xs w area left count (tight-room l) H
 
   pub tight-refused : length area - w < new → Posts xs w area area (w + new)
-  tight-refused l = refused-posts xs w area (w + new) (omega arith) (by (λ _ z. omega arith) (λ n. omega (arith, after)))
+  tight-refused l = refused-posts xs w area (w + new) (omega arith) (by (λ _ z. omega arith) (λ n. omega (arith, K .adds)))
 
 -- ---- two numbers of a byte
 pub bytes-product : (a b : ℕ) → a < 256 → b < 256 → a * b ≤ 65025

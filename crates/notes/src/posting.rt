@@ -84,7 +84,7 @@ fn new_if_due(
     0
 }
 
-// How many notes of the broadcasts are new.
+// How many notes of the broadcasts are new: those of the entries below u that are in the set.
 fn new_of_all(notes: &[u64], n: u8, source: DeskNo, entries: EntrySet, u: u8, timeout: u32) -> usize
     ensures { λ r. ⌜ r ≡ newCount (now (notes .entry)) (broadcasts (member (entries .0)) timeout (source .0) n u) ⌝ }
 {
@@ -156,7 +156,7 @@ fn broadcast_all(
     count
 }
 
-// Posts a note of each entry below u that is in the set to each of the desks 0 to n - 1, in rising order.
+// Posts, for each entry below u that is in the set, in rising order, a note to each of the desks 0 to n - 1.
 pub fn post_broadcasts(
     area: &mut [u64],
     waiting: usize,

@@ -1,14 +1,22 @@
 -- `notes::posting::post_broadcasts` meets its contract: the broadcasts have at most n new notes of each entry of the set. Assumes nothing.
 use mathlib.Core.Path.{sym}
+use Prim.Native.Nat.{_*_}
 use native.Mathlib.Omega.{arith}
 use borrow.Author.Needs.{needs}
 use lib.Seq.{length-take-le}
-use Rattle.sets.specs.Sets.{member}
+use Rattle.sets.specs.Sets.{member, size}
 use Rattle.rules.specs.Rules.{broadcasts}
-use Rattle.notes.proofs.NewCountLaws.{new-in-set-le, count-broadcasts}
-use Rattle.notes.proofs.PostingLaws.{size-product, tight-most, tight-room, tight-posts, tight-refused}
+use Rattle.notes.proofs.PostingLaws.{Tight, broadcasts-tight, tight-most, tight-room, tight-posts, tight-refused, size-product}
 use Rattle.notes.proofs.posting.post_broadcasts.Statement.{statement}
 use Rattle.notes.proofs.posting.post_broadcasts.Tie as tie
+
+-- what is known once the new notes are counted
+tight : (c : tie.After-new-of-all-if-tight) →
+    let a = c .before .before .before .args in
+    Tight (broadcasts (member (a .entries .0)) (a .timeout) (a .source .0) (a .n) (a .u)) (a .waiting) (a .area .now) (size 64 (a .entries .0) * a .n) (c .new-of-all-if-tight .result)
+tight c =
+    let start = c .before .before .before in
+    broadcasts-tight _ _ (start .pre .0) _ _ _ _ _ _ (start .pre .1) (c .new-of-all-if-tight .ensures)
 
 sub-room : tie.Need-sub-room
 sub-room c = search needs
@@ -24,27 +32,17 @@ new-of-all-if-tight-requires c κs = search needs
 
 add-result : tie.Need-add-result
 add-result c =
-    let counted = c .before in
-    let args = counted .before .before .before .args in
-    let notes = broadcasts (member (args .entries .0)) (args .timeout) (args .source .0) (args .n) (args .u) in
-    omega (
-      arith,
-      tight-most notes _ (args .area .now) _ _ (counted .before .before .before .pre .0) (new-in-set-le _ _ _ _ _ _ (counted .before .before .before .pre .1)) (count-broadcasts _ _ _ _ _ _ (omega arith)) (counted .new-of-all-if-tight .ensures),
-      size-product (args .entries .0) (args .n) (omega arith),
-    )
+    let a = c .before .before .before .before .args in
+    omega (arith, tight-most _ _ _ _ _ (tight (c .before)), size-product (a .entries .0) (a .n) (omega arith))
 
 same-length : tie.Need-same-length
 same-length c = search needs
 
 returns : tie.Need-returns
-returns c =
-    let counted = c .before in
-    tight-refused _ _ _ _ _ (counted .before .before .before .pre .0) (new-in-set-le _ _ _ _ _ _ (counted .before .before .before .pre .1)) (count-broadcasts _ _ _ _ _ _ (omega arith)) (counted .new-of-all-if-tight .ensures) (c .if1 .taken)
+returns c = tight-refused _ _ _ _ _ (tight (c .before)) (c .if1 .taken)
 
 broadcast-all-requires : tie.Need-broadcast-all-requires
-broadcast-all-requires c κs =
-    let counted = c .before .before in
-    tight-room _ _ _ _ _ (counted .before .before .before .pre .0) (new-in-set-le _ _ _ _ _ _ (counted .before .before .before .pre .1)) (count-broadcasts _ _ _ _ _ _ (omega arith)) (counted .new-of-all-if-tight .ensures) (c .before .if1 .left)
+broadcast-all-requires c κs = tight-room _ _ _ _ _ (tight (c .before .before)) (c .before .if1 .left)
 
 same-length-2 : tie.Need-same-length-2
 same-length-2 c = search needs
@@ -52,12 +50,8 @@ same-length-2 c = search needs
 returns-2 : tie.Need-returns-2
 returns-2 c =
     let done = c .before .before in
-    let counted = done .before .before .before in
-    tight-posts _ _ _ _ _ (counted .before .before .before .pre .0) (new-in-set-le _ _ _ _ _ _ (counted .before .before .before .pre .1)) (count-broadcasts _ _ _ _ _ _ (omega arith)) (counted .new-of-all-if-tight .ensures)
-    (done .before .before .if1 .left)
-    _
-    _
-    (done .broadcast-all .ensures)
+    let branch = done .before .before in
+    tight-posts _ _ _ _ _ (tight (branch .before)) (branch .if1 .left) _ _ (done .broadcast-all .ensures)
 
 pub post-broadcasts-spec : {M : Type 1} → statement M
 post-broadcasts-spec =
