@@ -2,8 +2,7 @@
 use mathlib.Core.Path.{_≡_, refl, sym, ap, ap₂, _∙_}
 use mathlib.Core.Bool.{Bool, true, false, not, _&&_}
 use mathlib.Core.List.{List, [], _∷_, map}
-use Prim.Native.Nat.{ℕ, zero, suc, _+_, _-_, _^_, _≤_, _<_}
-use native.Mathlib.Nat.{le-antisymm}
+use Prim.Native.Nat.{ℕ, zero, suc, _+_, _-_, _≤_, _<_}
 use native.Mathlib.Numerals.{add-one}
 use native.Mathlib.Omega.{arith}
 use lib.Dec.{leb, ltb}
@@ -11,13 +10,13 @@ use lib.ListN.{length, getD, set, take}
 use lib.Seq.{length-take-le}
 use borrow.Author.Tests.{lt-ltb, le-ltb, leb-true}
 use Rattle.sets.proofs.Tests.{was-true, was-false, and-left, and-right}
-use Rattle.rules.specs.Rules.{Desk, State, deskAt, later, mapFirst, everyNote, everyBelow, notPast, timersHold, delay, answer, effect, firstOf, _when_, lastTick}
+use Rattle.rules.specs.Rules.{Desk, State, later, mapFirst, everyNote, everyBelow, notPast, timersHold, delay, answer, effect, firstOf, _when_, lastTick}
 use Rattle.rules.proofs.CheckLaws.{first-none, first-fails, first-passes}
 use Rattle.rules.proofs.Clauses.{effect-delay, answer-delay, timersHold-is}
-use Rattle.rules.proofs.DeskLaws.{below-start, below-step, below-each, below-same}
+use Rattle.rules.proofs.DeskLaws.{below-step, below-each, below-same}
 use Rattle.notes.specs.Area.{laid}
 use Rattle.notes.proofs.AreaLaws.{laid-same}
-use Rattle.floors.specs.Bridge.{tabulate, joined, settingsOf, stateOf, floorOf, deskOf, Sized}
+use Rattle.floors.specs.Bridge.{tabulate, joined, stateOf, floorOf, deskOf, Sized}
 use Rattle.floors.specs.declared.Settings.{Settings}
 use Rattle.floors.specs.declared.Floor.{Floor}
 use Rattle.floors.proofs.Bridge.{floor, floor-same, desk-at, faulty-back, pass-back, accept-back, listed-back, sent-back, received-back}

@@ -4,7 +4,7 @@ use mathlib.Core.Bool.{Bool, true, false, not}
 use mathlib.Core.List.{List, [], _∷_}
 use Prim.Native.Nat.{ℕ, _+_, _*_, _≤_, _<_}
 use native.Mathlib.Omega.{arith}
-use lib.Dec.{eqb, ltb, leb}
+use lib.Dec.{leb}
 use lib.ListN.{length, getD, set, take}
 use lib.Seq.{length-take-le, set-getD}
 use borrow.Author.Tests.{le-leb, lt-leb}
@@ -13,7 +13,7 @@ use Rattle.sets.specs.Sets.{insert, insertBelow}
 use Rattle.sets.proofs.CountLaws.{count-step, count-ext}
 use Rattle.sets.proofs.MemberLaws.{insertBelow-low}
 use Rattle.rules.specs.Rules.{Desk, State, deskAt, withDesk, withNotes, timed, accepting, hearing, crashed, earliest, takenOut, without, isNone, faults}
-use Rattle.rules.specs.Rules.{Move, accept, receive, crash, resetTimers, answer, effect, firstOf, _when_, noDeskNo, noEntryNo}
+use Rattle.rules.specs.Rules.{Move, accept, receive, crash, resetTimers, answer, effect, firstOf, _when_}
 use Rattle.rules.proofs.CheckLaws.{first-none, first-fails, first-passes}
 use Rattle.rules.proofs.Clauses.{effect-accept, effect-receive, effect-crash, effect-reset, answer-accept, answer-receive, answer-crash, answer-reset}
 use Rattle.notes.specs.Area.{laid, Holds, placeOf}

@@ -2,7 +2,7 @@
 use mathlib.Core.Path.{_≡_, refl, sym, ap, _∙_, subst}
 use mathlib.Core.Bool.{Bool, true, false, not, _||_}
 use mathlib.Core.List.{List, [], _∷_}
-use Prim.Native.Nat.{ℕ, zero, suc, _+_, _≤_, _<_}
+use Prim.Native.Nat.{ℕ, _+_, _≤_, _<_}
 use native.Mathlib.Omega.{arith}
 use lib.Dec.{ltb}
 use lib.Bits.{bitOr}
@@ -14,7 +14,7 @@ use Rattle.sets.proofs.Tests.{or-left, or-right, none-or}
 use Rattle.sets.proofs.MemberLaws.{insertBelow-low}
 use Rattle.sets.proofs.InsertAllLaws.{insertAll-or, insertAll-member}
 use Rattle.rules.specs.Rules.{Desk, State, deskAt, isSent, withSent, timed, announced, passedOn, passing, due, post, postAll, noteOf, broadcast, broadcasts, newTimeOut, mostNotes}
-use Rattle.rules.specs.Rules.{Move, announce, passOn, falseNote, answer, effect, firstOf, _when_, noDeskNo, noEntryNo, noRoom}
+use Rattle.rules.specs.Rules.{announce, passOn, falseNote, answer, effect, firstOf, _when_, noRoom}
 use Rattle.rules.proofs.CheckLaws.{first-none, first-fails, first-passes}
 use Rattle.rules.proofs.Clauses.{effect-announce, effect-passOn, effect-false, answer-announce, answer-passOn, answer-false}
 use Rattle.rules.proofs.Effects.{sending, announced-again, announced-first, passingOn, passedOn-is}
@@ -27,7 +27,7 @@ use Rattle.floors.specs.Bridge.{settingsOf, stateOf, floorOf, deskOf, gathered,
 use Rattle.floors.specs.declared.Settings.{Settings}
 use Rattle.floors.specs.declared.Floor.{Floor}
 use Rattle.floors.specs.declared.Desk as machine
-use Rattle.floors.proofs.Bridge.{floor, floor-same, desk-at, row-stays, back, faulty-back, pass-back, accept-back, listed-back, sent-back, received-back}
+use Rattle.floors.proofs.Bridge.{floor-same, desk-at, row-stays, back, faulty-back, pass-back, accept-back, listed-back, sent-back, received-back}
 use Rattle.actions.specs.declared.head.Head.{Head}
 use Rattle.actions.specs.Actions.{Ready, stepAt, held, left}
 use Rattle.actions.proofs.Steps.{desk-fails, desk-passes, entry-fails, entry-passes, room-fails, room-passes, step-done, refused}

@@ -1,7 +1,7 @@
 -- A step's two ways out, refused and carried out, and the checks that several moves share. Assumes nothing.
-use mathlib.Core.Path.{_≡_, refl, sym, ap, _∙_}
-use mathlib.Core.Bool.{Bool, true, false, not, cond}
-use mathlib.Core.List.{List, [], _∷_}
+use mathlib.Core.Path.{_≡_, refl, ap}
+use mathlib.Core.Bool.{Bool, false, not}
+use mathlib.Core.List.{List, _∷_}
 use Prim.Native.Nat.{ℕ, _≤_, _<_}
 use lib.Dec.{eqb, ltb}
 use lib.ListN.{length}
@@ -13,7 +13,7 @@ use Rattle.floors.specs.Bridge.{stateOf, floorOf}
 use Rattle.floors.specs.declared.Settings.{Settings}
 use Rattle.floors.specs.declared.Floor.{Floor}
 use Rattle.actions.specs.declared.head.Head.{Head}
-use Rattle.actions.specs.Actions.{Outcome, refusal, carriedOut, stepAt, held, left}
+use Rattle.actions.specs.Actions.{Outcome, refusal, stepAt, held, left}
 
 -- ---- the checks that several moves share
 
@@ -44,7 +44,7 @@ outcome-same : {k k′ : ℕ} {f f′ : Floor} {a a′ : List ℕ} → k ≡ k�
 outcome-same p q r = cc
 
 module _ (fl : Floor) (area : List ℕ) (m : Move) where
-  step-refused : (number : ℕ) → (number ≡ 0 → ⊥) → answer (stateOf fl area) m ≡ number → refusal number fl area ≡ stepAt fl area m
+  pub step-refused : (number : ℕ) → (number ≡ 0 → ⊥) → answer (stateOf fl area) m ≡ number → refusal number fl area ≡ stepAt fl area m
   unfolding stepAt
   step-refused number some e = rw (e, ne-eqb number 0 some)
 

@@ -1,6 +1,128 @@
 // One action on a floor: the shape check, opening, and the step that every run is made of.
-pub mod head;
-pub mod desks;
 pub mod delay;
+pub mod desks;
+pub mod head;
 pub mod sending;
 pub mod shape;
+pub mod step;
+
+use crate::head::Head;
+use floors::Floor;
+use floors::Settings;
+use records::Action;
+ghost use mathlib.Core.Path.{_≡_};
+ghost use Rattle.actions.specs.Actions.{acted, opened};
+
+pub struct Acted {
+    pub answer: u8,
+    pub floor: Floor,
+}
+
+pub fn open(opening: Action, area: &mut [u64]) -> Acted
+    ensures { λ r. ⌜ record { answer = r .answer; floor = r .floor; area = now (area .exit) } ≡ opened (now (area .entry)) opening ⌝ }
+{
+    if area.len() != Settings::NOTES {
+        return Acted {
+            answer: 15,
+            floor: Floor::none(),
+        };
+    }
+    if !(opening.well_formed() & (opening.kind == 8)) {
+        return Acted {
+            answer: 3,
+            floor: Floor::none(),
+        };
+    }
+    let settings = Settings {
+        n: opening.desk.0,
+        f: opening.other.0,
+        u: opening.entry.0,
+        m: opening.a,
+        p: opening.b,
+        a: opening.c,
+    };
+    if !settings.within_limits() {
+        return Acted {
+            answer: 2,
+            floor: Floor::none(),
+        };
+    }
+    notes::clear(area);
+    Acted {
+        answer: 0,
+        floor: Floor::fresh(settings),
+    }
+}
+
+pub fn act(floor: Floor, area: &mut [u64], action: Action) -> Acted
+    ensures { λ r. ⌜ record { answer = r .answer; floor = r .floor; area = now (area .exit) } ≡ acted floor (now (area .entry)) action ⌝ }
+{
+    if area.len() != Settings::NOTES {
+        return Acted {
+            answer: 15,
+            floor: floor,
+        };
+    }
+    let settings = floor.settings;
+    let mut faulty = floor.faulty;
+    let mut pass = floor.pass;
+    let mut accept = floor.accept;
+    let mut listed = floor.listed;
+    let mut sent = floor.sent;
+    let mut received = floor.received;
+    let fits = shape::in_shape(
+        settings,
+        floor.clock,
+        floor.waiting,
+        &faulty,
+        &pass,
+        &accept,
+        &listed,
+        &sent,
+        &received,
+        area,
+    );
+    if !fits {
+        return Acted {
+            answer: 1,
+            floor: floor,
+        };
+    }
+    if !action.well_formed() {
+        return Acted {
+            answer: 3,
+            floor: floor,
+        };
+    }
+    let head = Head {
+        answer: 0,
+        clock: floor.clock,
+        waiting: floor.waiting,
+    };
+    let after = step::step(
+        settings,
+        head,
+        action,
+        &mut faulty,
+        &mut pass,
+        &mut accept,
+        &mut listed,
+        &mut sent,
+        &mut received,
+        area,
+    );
+    Acted {
+        answer: after.answer,
+        floor: Floor {
+            settings: settings,
+            clock: after.clock,
+            waiting: after.waiting,
+            faulty: faulty,
+            pass: pass,
+            accept: accept,
+            listed: listed,
+            sent: sent,
+            received: received,
+        },
+    }
+}

@@ -36,7 +36,7 @@ pub struct Reading {
 
 impl Action {
     // Whether the kind is known and each field that it does not use is 0.
-    fn well_formed(self) -> bool
+    pub fn well_formed(self) -> bool
         ensures { λ r. ⌜ r ≡ wellFormed self ⌝ }
     {
         let kind = self.kind;

@@ -1,7 +1,7 @@
 -- The rules, clause by clause, for those who may not unfold them: the effect of each move and the checks behind its number.
 -- Assumes nothing.
 use mathlib.Core.Path.{_≡_, refl}
-use mathlib.Core.Bool.{not, true, _||_, _&&_}
+use mathlib.Core.Bool.{not, _||_, _&&_}
 use mathlib.Core.List.{[], _∷_}
 use Prim.Native.Nat.{ℕ, _+_}
 use lib.Dec.{ltb, leb}

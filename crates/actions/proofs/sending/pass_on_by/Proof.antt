@@ -46,7 +46,7 @@ same-length : tie.Need-same-length
 same-length c = search needs
 
 returns-2 : tie.Need-returns-2
-returns-2 c = 
+returns-2 c =
     let posted = c .before .before .before .before in
     let start = begun posted in
     pass-11 _ (start .args .head) _ _ _ _ _ _ _ _ _ (start .pre .0) (start .pre .1) (inside posted .if1 .left) _ (gathered-desk posted .desk-at .ensures) _ (due-set posted .due .ensures) _ _
@@ -59,7 +59,7 @@ mul-pass : tie.Need-mul-pass
 mul-pass c = search needs
 
 element-write-pass : tie.Need-element-write-pass
-element-write-pass c = 
+element-write-pass c =
     let posted = c .before .before .before .before in
     omega (arith, begun posted .pre .0 .desks, inside posted .if1 .left)
 
@@ -67,7 +67,7 @@ mul-sent : tie.Need-mul-sent
 mul-sent c = search needs
 
 element-write-sent : tie.Need-element-write-sent
-element-write-sent c = 
+element-write-sent c =
     let posted = c .before .before .before .before in
     omega (arith, begun posted .pre .0 .desks, inside posted .if1 .left)
 
@@ -75,7 +75,7 @@ same-length-2 : tie.Need-same-length-2
 same-length-2 c = search needs
 
 returns-3 : tie.Need-returns-3
-returns-3 c = 
+returns-3 c =
     let posted = c .before .before .before .before in
     let start = begun posted in
     pass-0 _ (start .args .head) (start .args .head) _ _ _ _ _ _ _ _ (start .pre .0) (start .pre .1) (inside posted .if1 .left) _ (gathered-desk posted .desk-at .ensures) _ (due-set posted .due .ensures) _ _

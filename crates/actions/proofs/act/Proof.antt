@@ -1,0 +1,69 @@
+-- `actions::act` meets its contract. Assumes nothing.
+use Rattle.sets.proofs.Tests.{was-true}
+use Rattle.floors.specs.Bridge.{Sized}
+use Rattle.actions.proofs.Calls.{act-15, act-1, act-3, act-step, ready}
+use borrow.Author.Needs.{needs}
+use Rattle.actions.proofs.act.Statement.{statement}
+use Rattle.actions.proofs.act.Tie as tie
+
+abbrev inside : tie.After-in-shape-arg → tie.Else1
+inside c = c .before .before .before .before .before .before .before .before .before .before .before .before .before .before
+
+sized : (c : tie.Else1) → Sized (c .before .before .args .floor)
+sized c = record { faulty = search needs; pass = search needs; accept = search needs; listed = search needs; sent = search needs; received = search needs }
+
+returns : tie.Need-returns
+returns c = search act-15
+
+in-shape-requires : tie.Need-in-shape-requires
+in-shape-requires c κs = (sized (inside c), inside c .if1 .left)
+
+same-length : tie.Need-same-length
+same-length c = search needs
+
+returns-2 : tie.Need-returns-2
+returns-2 c = search act-1
+
+well-formed-requires : tie.Need-well-formed-requires
+well-formed-requires c κs = search needs
+
+same-length-2 : tie.Need-same-length-2
+same-length-2 c = search needs
+
+returns-3 : tie.Need-returns-3
+returns-3 c = search act-3
+
+step-requires : tie.Need-step-requires
+step-requires c κs =
+    let formed = c .before .before .before .before .before .before .before in
+    let looked = formed .before .before .before in
+    let start = inside (looked .before) .before .before in (
+      ready (start .args .floor) _ (was-true (looked .in-shape .ensures) (formed .before .before .if2 .left)) (inside (looked .before) .if1 .left),
+      was-true (formed .before .well-formed .ensures) (formed .if3 .left),
+    )
+
+same-length-3 : tie.Need-same-length-3
+same-length-3 c = search needs
+
+returns-4 : tie.Need-returns-4
+returns-4 c =
+    let done = c .before .before in
+    let formed = done .before .before .before .before .before .before .before .before in
+    let looked = formed .before .before .before in
+    let start = inside (looked .before) .before .before in
+    act-step (start .args .floor) _ (start .args .action) (inside (looked .before) .if1 .left) _ (looked .in-shape .ensures) (formed .before .before .if2 .left) _ (done .step .ensures)
+
+pub act-spec : {M : Type 1} → statement M
+act-spec =
+    tie.close
+    (tie.spec
+    returns
+    in-shape-requires
+    same-length
+    returns-2
+    well-formed-requires
+    same-length-2
+    returns-3
+    step-requires
+    same-length-3
+    returns-4)

@@ -1,0 +1,90 @@
+// One action on a floor that is taken apart. Every run is made of this step, and so is the call for one action.
+use crate::delay::delay_by;
+use crate::desks::accept_by;
+use crate::desks::crash_of;
+use crate::desks::receive_by;
+use crate::desks::reset_by;
+use crate::head::Head;
+use crate::head::answered;
+use crate::sending::announce_by;
+use crate::sending::false_note_by;
+use crate::sending::pass_on_by;
+use floors::Settings;
+use records::Action;
+ghost use mathlib.Core.Path.{_≡_};
+ghost use mathlib.Core.Bool.{true};
+ghost use lib.ListN.{length};
+ghost use Rattle.records.specs.Records.{wellFormed};
+ghost use Rattle.actions.specs.Actions.{Ready, held, left, stepAt, moveOf};
+
+// Lending an array as a slice tells its length; nothing is done.
+fn lengths(a: &[bool], b: &[u32], c: &[u32], d: &[u64], e: &[u64], f: &[u16]) {}
+
+pub fn step(
+    settings: Settings,
+    head: Head,
+    action: Action,
+    faulty: &mut [bool; 16],
+    pass: &mut [u32; 16],
+    accept: &mut [u32; 16],
+    listed: &mut [u64; 16],
+    sent: &mut [u64; 16],
+    received: &mut [u16; 1024],
+    area: &mut [u64],
+) -> Head
+    requires { ⌜ Ready settings head (length (now area)) × (wellFormed action ≡ true) ⌝ }
+    ensures { λ r. ⌜ left settings r (now (faulty .exit)) (now (pass .exit)) (now (accept .exit)) (now (listed .exit)) (now (sent .exit)) (now (received .exit)) (now (area .exit))
+        ≡ stepAt (held settings head (now (faulty .entry)) (now (pass .entry)) (now (accept .entry)) (now (listed .entry)) (now (sent .entry)) (now (received .entry))) (now (area .entry)) (moveOf action) ⌝ }
+{
+    lengths(faulty, pass, accept, listed, sent, received);
+    let kind = action.kind;
+    match kind {
+        0 => delay_by(settings, head, pass, accept, area, action.a),
+        1 => announce_by(settings, head, sent, area, action.desk, action.entry),
+        2 => pass_on_by(
+            settings,
+            head,
+            faulty,
+            pass,
+            accept,
+            listed,
+            sent,
+            received,
+            area,
+            action.desk,
+        ),
+        3 => accept_by(
+            settings,
+            head,
+            faulty,
+            pass,
+            accept,
+            listed,
+            sent,
+            received,
+            action.desk,
+        ),
+        4 => receive_by(
+            settings,
+            head,
+            received,
+            area,
+            action.desk,
+            action.other,
+            action.entry,
+        ),
+        5 => crash_of(settings, head, faulty, action.desk),
+        6 => reset_by(settings, head, faulty, pass, accept, action.desk),
+        7 => false_note_by(
+            settings,
+            head,
+            faulty,
+            area,
+            action.desk,
+            action.other,
+            action.entry,
+            action.a,
+        ),
+        _ => answered(3, head),
+    }
+}
