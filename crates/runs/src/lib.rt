@@ -9,7 +9,7 @@ use floors::Floor;
 use floors::Settings;
 ghost use mathlib.Core.Path.{_≡_};
 ghost use mathlib.Core.Bool.{true};
-ghost use Prim.Native.Nat.{_≤_, _*_};
+ghost use Prim.Native.Nat.{_≤_, _*_, min};
 ghost use lib.ListN.{length};
 ghost use Rattle.rules.specs.Rules.{mostNotes};
 ghost use Rattle.records.specs.Records.{actionOf};
@@ -102,4 +102,110 @@ fn run_records(floor: Floor, area: &mut [u64], sequence: &[u8], limit: usize) ->
             received: received,
         },
     }
+}
+
+fn least(a: usize, b: usize) -> usize
+    ensures { λ r. ⌜ r ≡ min a b ⌝ }
+{
+    if a < b { a } else { b }
+}
+
+// Whether a floor handed in is in shape.
+fn shape_holds(floor: Floor, area: &[u64]) -> bool
+    requires { ⌜ length (now area) ≡ mostNotes ⌝ }
+    ensures { λ r. ⌜ r ≡ inShapeAt floor (now (area .entry)) ⌝ }
+{
+    let settings = floor.settings;
+    let faulty = floor.faulty;
+    let pass = floor.pass;
+    let accept = floor.accept;
+    let listed = floor.listed;
+    let sent = floor.sent;
+    let received = floor.received;
+    in_shape(
+        settings,
+        floor.clock,
+        floor.waiting,
+        &faulty,
+        &pass,
+        &accept,
+        &listed,
+        &sent,
+        &received,
+        area,
+    )
+}
+
+// A run on a floor: at most `most` records, up to the first that is refused.
+pub fn run(floor: Floor, area: &mut [u64], sequence: &[u8], most: usize) -> Ran
+    ensures { λ r. ⌜ record { count = r .count; out = record { answer = r .answer; floor = r .floor; area = now (area .exit) } } ≡ went floor (now (area .entry)) (now (sequence .entry)) most ⌝ }
+{
+    if area.len() != Settings::NOTES {
+        return Ran {
+            count: 0,
+            answer: 15,
+            floor: floor,
+        };
+    }
+    if !shape_holds(floor, area) {
+        return Ran {
+            count: 0,
+            answer: 1,
+            floor: floor,
+        };
+    }
+    if sequence.len() % 16 != 0 {
+        return Ran {
+            count: 0,
+            answer: 16,
+            floor: floor,
+        };
+    }
+    let limit = least(most, sequence.len() / 16);
+    run_records(floor, area, sequence, limit)
+}
+
+// The part of a sequence that begins with the record after so many.
+pub fn rest(sequence: &[u8], count: usize) -> &[u8]
+    ensures { λ r. ⌜ now r ≡ restOf (now (sequence .entry)) count ⌝ }
+{
+    let end = sequence.len();
+    if end / 16 < count {
+        return &sequence[end..];
+    }
+    let at = 16 * count;
+    &sequence[at..]
+}
+
+// A whole sequence: an opening, and a run of all the records after it on the floor that it opens.
+pub fn whole(area: &mut [u64], sequence: &[u8]) -> Ran
+    ensures { λ r. ⌜ record { count = r .count; out = record { answer = r .answer; floor = r .floor; area = now (area .exit) } } ≡ wholeWent (now (area .entry)) (now (sequence .entry)) ⌝ }
+{
+    if area.len() != Settings::NOTES {
+        return Ran {
+            count: 0,
+            answer: 15,
+            floor: Floor::none(),
+        };
+    }
+    if (sequence.len() == 0) | (sequence.len() % 16 != 0) {
+        return Ran {
+            count: 0,
+            answer: 16,
+            floor: Floor::none(),
+        };
+    }
+    let reading = records::read(&sequence[..16]);
+    let first = reading.action;
+    let opened = actions::open(first, area);
+    let floor = opened.floor;
+    if opened.answer != 0 {
+        return Ran {
+            count: 0,
+            answer: opened.answer,
+            floor: floor,
+        };
+    }
+    let limit = sequence.len() / 16 - 1;
+    run_records(floor, area, &sequence[16..], limit)
 }
