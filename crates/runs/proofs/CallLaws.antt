@@ -172,6 +172,17 @@ module _ (area bytes : List ℕ) where
         unfolding afterOpening
         whole-stops z = sym (first ∙ rw (← is, ne-eqb (o .answer) 0 z))
 
-        pub whole-runs : o .answer ≡ 0 → (r : Went) → r ≡ wentFrom (length bytes / 16 - 1) (o .floor) (o .area) (drop 16 bytes) 0 → r ≡ wholeWent area bytes
+        -- what the records after the opening are carried out on
+        pub whole-ready : o .answer ≡ 0 → (inShapeAt (o .floor) (o .area) ≡ true) × (length (o .area) ≡ mostNotes) × (16 * (length bytes / 16 - 1) ≤ length (take (length bytes - 16) (drop 16 bytes)))
+        whole-ready z =
+            let x = actionOf (take 16 bytes) in
+            let e : opened area x .answer ≡ 0 = ap (λ (y : Outcome). y .answer) (sym is) ∙ z in
+            let (more, even) = records-there in (
+              subst (λ (y : Outcome). inShapeAt (y .floor) (y .area) ≡ true) (sym is) (opened-shape area x e),
+              ap (λ (y : Outcome). length (y .area)) (is ∙ opened-is area x e) ∙ length-replicate (length area) 0 ∙ long,
+              rw (tail bytes 16 more, length-drop 16 bytes) (omega arith),
+            )
+
+        pub whole-runs : o .answer ≡ 0 → (r : Went) → r ≡ wentFrom (length bytes / 16 - 1) (o .floor) (o .area) (take (length bytes - 16) (drop 16 bytes)) 0 → r ≡ wholeWent area bytes
         unfolding afterOpening
-        whole-runs z r e = sym (first ∙ rw (← is, eq-eqb (o .answer) 0 z) (sym e))
+        whole-runs z r e = sym (first ∙ rw (← is, eq-eqb (o .answer) 0 z) (sym (e ∙ ap (λ (b : List ℕ). wentFrom (length bytes / 16 - 1) (o .floor) (o .area) b 0) (tail bytes 16 (records-there .0)))))

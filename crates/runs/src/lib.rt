@@ -45,7 +45,16 @@ fn step_record(
     }
     let action = reading.action;
     step(
-        settings, head, action, faulty, pass, accept, listed, sent, received, area,
+        settings,
+        head,
+        action,
+        faulty,
+        pass,
+        accept,
+        listed,
+        sent,
+        received,
+        area,
     )
 }
 

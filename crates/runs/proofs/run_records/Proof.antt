@@ -50,23 +50,23 @@ part-step-record-end : tie.Need-part-step-record-end Inv-loop μ-loop
 part-step-record-end c = omega (arith, begun (c .before) .pre .2, c .loop-test .taken)
 
 step-record-requires : tie.Need-step-record-requires Inv-loop μ-loop
-step-record-requires c κs = 
+step-record-requires c κs =
     let turn = c .before .before .before .before .before .before .before .before in
     let at = turn .before .loop in
     (going-ready _ _ _ _ _ _ _ _ _ _ _ _ _ (at .inv), part-long _ (at .count) (omega (arith, begun (turn .before) .pre .2, turn .loop-test .taken)))
 
 add-count : tie.Need-add-count Inv-loop μ-loop
-add-count c = 
+add-count c =
     let turn = turned (c .before .before .before .before) in
     omega (arith, turn .loop-test .taken, begun (turn .before) .fits .limit .fits)
 
 loop-less : tie.Need-loop-less Inv-loop μ-loop
-loop-less c = 
+loop-less c =
     let turn = turned (c .before .before .before .before) in
     omega (arith, turn .loop-test .taken)
 
 loop-again : tie.Need-loop-again Inv-loop μ-loop
-loop-again c = 
+loop-again c =
     let done = c .before .before .before .before in
     let turn = turned done in
     let at = turn .before .loop in
@@ -79,7 +79,7 @@ returns : tie.Need-returns Inv-loop μ-loop
 returns c = going-end _ _ _ _ _ _ _ _ _ _ _ _ _ (c .before .loop .inv) (c .loop-test .left)
 
 same-length-2 : tie.Need-same-length-2 Inv-loop μ-loop
-same-length-2 c = 
+same-length-2 c =
     let done = c .before .before .before .before in
     let turn = turned done in
     let at = turn .before .loop in
@@ -87,7 +87,7 @@ same-length-2 c =
     ∙ at .inv .fit .exact ∙ sym (begun (turn .before) .pre .1)
 
 returns-2 : tie.Need-returns-2 Inv-loop μ-loop
-returns-2 c = 
+returns-2 c =
     let done = c .before .before .before .before in
     let turn = turned done in
     let at = turn .before .loop in
