@@ -10,12 +10,12 @@ use native.Mathlib.Omega.{arith}
 use lib.Dec.{eqb, leb}
 use lib.ListN.{length, take, drop, length-drop}
 use lib.Seq.{length-take-le}
-use borrow.Author.Tests.{eq-eqb, ne-eqb, eqb-true, leb-true}
-use Rattle.sets.proofs.Tests.{and-left, and-right, cond-true, decided}
+use borrow.Author.Tests.{eq-eqb, ne-eqb, eqb-true, leb-true, le-leb}
+use Rattle.sets.proofs.Tests.{and-both, and-left, and-right, cond-true, decided}
 use Rattle.rules.specs.Rules.{State, Move, unknown, answer, effect, next, inShape, mostNotes}
 use Rattle.rules.proofs.CheckLaws.{carried-out, next-carried-out}
 use Rattle.rules.proofs.Effects.{Whole, kept-whole, effect-kept}
-use Rattle.rules.proofs.Shapes.{Shape, shape, Limits, shape-limits}
+use Rattle.rules.proofs.Shapes.{Shape, shape, in-shape, Limits, shape-limits}
 use Rattle.rules.proofs.ShapeKept.{effect-shape}
 use Rattle.notes.specs.Area.{laid}
 use Rattle.notes.proofs.AreaLaws.{take-laid, length-laid}
@@ -49,6 +49,11 @@ fit-start fl area h sized long =
       waiting = omega (arith, leb-true (fl .waiting) mostNotes (and-left (leb (fl .waiting) mostNotes) (inShape (stateOf fl area)) h));
       exact = long;
     }
+
+pub fit-shape : (fl : Floor) (area : List ℕ) → Fit fl area → inShapeAt fl area ≡ true
+unfolding inShapeAt
+fit-shape fl area fit =
+    and-both (leb (fl .waiting) mostNotes) (inShape (stateOf fl area)) (le-leb (fl .waiting) mostNotes (omega (arith, fit .waiting, fit .exact))) (in-shape (stateOf fl area) (fit .shaped))
 
 pub fit-ready : (fl : Floor) (area : List ℕ) (number : ℕ) → Fit fl area → Ready (fl .settings) (record { answer = number; clock = fl .clock; waiting = fl .waiting }) (length area)
 fit-ready fl area number fit =
@@ -157,11 +162,11 @@ module _ (fl : Floor) (area bytes : List ℕ) where
   went-none k = refl
 
   module _ (n k : ℕ) (o : Outcome) (is : o ≡ stepAt fl area (moveAt bytes k)) where
-    went-next : o .answer ≡ 0 → wentFrom (suc n) fl area bytes k ≡ wentFrom n (o .floor) (o .area) bytes (k + 1)
+    pub went-next : o .answer ≡ 0 → wentFrom (suc n) fl area bytes k ≡ wentFrom n (o .floor) (o .area) bytes (k + 1)
     unfolding wentFrom
     went-next z = rw (← is, eq-eqb (o .answer) 0 z, add-one)
 
-    went-stop : (o .answer ≡ 0 → ⊥) → wentFrom (suc n) fl area bytes k ≡ record { count = k; out = o }
+    pub went-stop : (o .answer ≡ 0 → ⊥) → wentFrom (suc n) fl area bytes k ≡ record { count = k; out = o }
     unfolding wentFrom
     went-stop z = rw (← is, ne-eqb (o .answer) 0 z)
 
