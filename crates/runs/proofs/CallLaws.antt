@@ -2,31 +2,31 @@
 use mathlib.Core.Path.{_≡_, refl, sym, ap, _∙_, subst}
 use mathlib.Core.Bool.{Bool, true, false, not, cond, _&&_, _||_}
 use mathlib.Core.Logic.{_≢_, ⊎-elim}
-use mathlib.Core.List.{List, [], _∷_, _++_}
-use Prim.Native.Nat.{ℕ, zero, suc, _+_, _-_, _*_, _/_, _%_, _≤_, _<_, min, zero-le}
+use mathlib.Core.List.{List, [], _∷_}
+use Prim.Native.Nat.{ℕ, _-_, _*_, _/_, _%_, _≤_, _<_, min, zero-le}
 use native.Mathlib.Nat.{le-refl}
 use native.Mathlib.Omega.{arith}
-use lib.Dec.{eqb, leb}
+use lib.Dec.{eqb}
 use lib.ListN.{length, take, drop, replicate, length-drop, length-replicate, drop-of-length-le}
-use lib.Seq.{length-take-le, take-all, drop-length}
-use borrow.Author.Tests.{eq-eqb, ne-eqb, eqb-true, eqb-false, le-leb, not-false}
-use Rattle.sets.proofs.Tests.{was-true, was-false, and-both, and-left, decided, cond-true, or-none}
-use Rattle.rules.specs.Rules.{State, firstOf, _when_, Check, mostNotes, withinLimits, fresh, inShape}
+use lib.Seq.{take-all, drop-length}
+use borrow.Author.Tests.{eq-eqb, ne-eqb, eqb-true, eqb-false, not-false}
+use Rattle.sets.proofs.Tests.{was-true, was-false, decided, cond-true, or-none}
+use Rattle.rules.specs.Rules.{firstOf, _when_, mostNotes, withinLimits, fresh}
 use Rattle.rules.proofs.CheckLaws.{first-none, first-fails, first-passes, zero-passed, not-zero}
 use Rattle.rules.proofs.Effects.{fresh-whole}
-use Rattle.rules.proofs.Shapes.{Shape, in-shape}
+use Rattle.rules.proofs.Shapes.{Shape}
 use Rattle.rules.proofs.ShapeKept.{fresh-shape}
 use Rattle.records.specs.Records.{wellFormed, actionOf, readOf, zeros}
 use Rattle.records.specs.declared.Action.{Action}
 use Rattle.records.specs.declared.Reading.{Reading}
 use Rattle.records.proofs.RecordLaws.{read-good, read-zeros}
-use Rattle.floors.specs.Bridge.{settingsOf, stateOf, floorOf, noFloor}
+use Rattle.floors.specs.Bridge.{settingsOf, stateOf, floorOf, noFloor, Sized}
 use Rattle.floors.specs.declared.Floor.{Floor}
-use Rattle.floors.proofs.Bridge.{there}
+use Rattle.floors.proofs.Bridge.{there, whole-sized}
 use Rattle.actions.specs.Actions.{Outcome, refusal, inShapeAt, callChecks, settingsIn, openingChecks, opened}
 use Rattle.actions.proofs.Calls.{open-3}
 use Rattle.runs.specs.Runs.{Went, wentFrom, stopped, runChecks, went, restOf, wholeChecks, afterOpening, wholeWent}
-use Rattle.runs.proofs.RunLaws.{record-good}
+use Rattle.runs.proofs.RunLaws.{Fit, fit-shape, record-good}
 
 -- ---- a run
 
@@ -66,7 +66,7 @@ limit-fits bytes limit most e = omega arith
 
 -- ---- the part not carried out
 
-tail : (bytes : List ℕ) (at : ℕ) → at ≤ length bytes → take (length bytes - at) (drop at bytes) ≡ drop at bytes
+pub tail : (bytes : List ℕ) (at : ℕ) → at ≤ length bytes → take (length bytes - at) (drop at bytes) ≡ drop at bytes
 tail bytes at h = take-all (length bytes - at) (drop at bytes) (simp length-drop (omega arith))
 
 pub rest-there : (bytes : List ℕ) (count : ℕ) → count ≤ length bytes / 16 → take (length bytes - 16 * count) (drop (16 * count) bytes) ≡ restOf bytes count
@@ -103,6 +103,17 @@ module _ (area bytes : List ℕ) (r : Reading) (is : r ≡ readOf bytes) (sixtee
           ap (opened area) (none e) ∙ sym (open-3 area zeros long (wellFormed zeros) refl (not-eight (wellFormed zeros)) noFloor refl)
           ∙ open-3 area (actionOf bytes) long (wellFormed (actionOf bytes)) refl (rw (formed e)) noFloor refl
 
+-- a refused opening gives no floor
+pub opened-none : (area : List ℕ) (x : Action) → (opened area x .answer ≡ 0 → ⊥) → opened area x .floor ≡ noFloor
+unfolding opened
+opened-none area x = go (eqb (firstOf (openingChecks area x)) 0) refl
+  where
+    go : (b : Bool) → eqb (firstOf (openingChecks area x)) 0 ≡ b
+        → let o = cond b (record { answer = 0; floor = floorOf (fresh (settingsOf (settingsIn x))); area = replicate (length area) 0 }) (refusal (firstOf (openingChecks area x)) noFloor area) in
+        (o .answer ≡ 0 → ⊥) → o .floor ≡ noFloor
+    go true q z = absurd (z refl)
+    go false q z = refl
+
 -- a floor that was opened is in shape
 module _ (area : List ℕ) (x : Action) (e : opened area x .answer ≡ 0) where
   passed : firstOf (openingChecks area x) ≡ 0
@@ -115,9 +126,17 @@ module _ (area : List ℕ) (x : Action) (e : opened area x .answer ≡ 0) where
       go true q z = eqb-true (firstOf (openingChecks area x)) 0 q
       go false q z = z
 
-  limits : withinLimits (settingsOf (settingsIn x)) ≡ true
+  within : (not (eqb (length area) mostNotes) ≡ false) × (not (withinLimits (settingsOf (settingsIn x))) ≡ false)
   unfolding openingChecks
-  limits = not-false (withinLimits (settingsOf (settingsIn x))) (zero-passed (openingChecks area x) (not-zero 15 refl, (not-zero 3 refl, (not-zero 2 refl, tt))) passed .1 .1 .0)
+  within =
+      let clear = zero-passed (openingChecks area x) (not-zero 15 refl, (not-zero 3 refl, (not-zero 2 refl, tt))) passed in
+      (clear .0, clear .1 .1 .0)
+
+  pub limits : withinLimits (settingsOf (settingsIn x)) ≡ true
+  limits = not-false (withinLimits (settingsOf (settingsIn x))) (within .1)
+
+  long-enough : length area ≡ mostNotes
+  long-enough = eqb-true (length area) mostNotes (not-false (eqb (length area) mostNotes) (within .0))
 
   pub opened-is : opened area x ≡ record { answer = 0; floor = floorOf (fresh (settingsOf (settingsIn x))); area = replicate (length area) 0 }
   unfolding opened
@@ -127,12 +146,16 @@ module _ (area : List ℕ) (x : Action) (e : opened area x .answer ≡ 0) where
   unfolding fresh
   opened-state = ap (λ (o : Outcome). stateOf (o .floor) (o .area)) opened-is ∙ there (fresh (settingsOf (settingsIn x))) (fresh-whole (settingsOf (settingsIn x))) (replicate (length area) 0) refl
 
-  pub opened-shape : inShapeAt (opened area x .floor) (opened area x .area) ≡ true
-  unfolding inShapeAt fresh
-  opened-shape =
-      and-both (leb (opened area x .floor .waiting) mostNotes) (inShape (stateOf (opened area x .floor) (opened area x .area)))
-      (le-leb (opened area x .floor .waiting) mostNotes (subst (λ (o : Outcome). o .floor .waiting ≤ mostNotes) (sym opened-is) zero-le))
-      (ap inShape opened-state ∙ in-shape (fresh (settingsOf (settingsIn x))) (fresh-shape (settingsOf (settingsIn x)) limits))
+  pub opened-fit : Fit (opened area x .floor) (opened area x .area)
+  unfolding fresh
+  opened-fit =
+      let k = settingsOf (settingsIn x) in
+      record {
+        shaped = subst Shape (sym opened-state) (fresh-shape k limits);
+        sized = subst (λ (o : Outcome). Sized (o .floor)) (sym opened-is) (whole-sized (fresh k) (fresh-whole k));
+        waiting = subst (λ (o : Outcome). o .floor .waiting ≤ length (o .area)) (sym opened-is) zero-le;
+        exact = ap (λ (o : Outcome). length (o .area)) opened-is ∙ length-replicate (length area) 0 ∙ long-enough;
+      }
 
 -- ---- a whole sequence
 
@@ -176,12 +199,11 @@ module _ (area bytes : List ℕ) where
         pub whole-ready : o .answer ≡ 0 → (inShapeAt (o .floor) (o .area) ≡ true) × (length (o .area) ≡ mostNotes) × (16 * (length bytes / 16 - 1) ≤ length (take (length bytes - 16) (drop 16 bytes)))
         whole-ready z =
             let x = actionOf (take 16 bytes) in
-            let e : opened area x .answer ≡ 0 = ap (λ (y : Outcome). y .answer) (sym is) ∙ z in
-            let (more, even) = records-there in (
-              subst (λ (y : Outcome). inShapeAt (y .floor) (y .area) ≡ true) (sym is) (opened-shape area x e),
-              ap (λ (y : Outcome). length (y .area)) (is ∙ opened-is area x e) ∙ length-replicate (length area) 0 ∙ long,
-              rw (tail bytes 16 more, length-drop 16 bytes) (omega arith),
-            )
+            let fit : Fit (o .floor) (o .area) =
+            subst (λ (y : Outcome). Fit (y .floor) (y .area)) (sym is) (opened-fit area x (ap (λ (y : Outcome). y .answer) (sym is) ∙ z))
+            in
+            let (more, even) = records-there in
+            (fit-shape (o .floor) (o .area) fit, fit .exact, rw (tail bytes 16 more, length-drop 16 bytes) (omega arith))
 
         pub whole-runs : o .answer ≡ 0 → (r : Went) → r ≡ wentFrom (length bytes / 16 - 1) (o .floor) (o .area) (take (length bytes - 16) (drop 16 bytes)) 0 → r ≡ wholeWent area bytes
         unfolding afterOpening

@@ -1,8 +1,8 @@
 -- The run of the records is the run of the rules: as many steps, the same last number, and the same state; and what those steps are. Assumes nothing.
-use mathlib.Core.Path.{_≡_, refl, sym, ap, _∙_, subst}
-use mathlib.Core.Bool.{Bool, true, false, not, cond}
+use mathlib.Core.Path.{_≡_, refl, sym, _∙_, subst}
+use mathlib.Core.Bool.{true}
 use mathlib.Core.Logic.{_≢_, ⊎-elim}
-use mathlib.Core.List.{List, [], _∷_}
+use mathlib.Core.List.{List, _∷_}
 use Prim.Native.Nat.{ℕ, zero, suc, _+_, _/_, _%_, min}
 use native.Mathlib.Numerals.{add-one}
 use native.Mathlib.Omega.{arith}
@@ -11,7 +11,7 @@ use lib.ListN.{length}
 use borrow.Author.Tests.{eq-eqb, ne-eqb, eqb-true, eqb-false}
 use Rattle.sets.proofs.Tests.{decided, cond-both}
 use Rattle.rules.proofs.CheckLaws.{next-refused}
-use Rattle.rules.specs.Rules.{State, Move, answer, next, firstOf, Run, oneMore, run}
+use Rattle.rules.specs.Rules.{State, Move, answer, next, Run, oneMore, run}
 use Rattle.agreement.specs.View.{after}
 use Rattle.floors.specs.Bridge.{stateOf}
 use Rattle.floors.specs.declared.Floor.{Floor}
@@ -77,8 +77,8 @@ module _ (bytes : List ℕ) where
       rw one-less
       (⊎-elim
       (λ e. let z : answer (stateOf fl area) m ≡ 0 = eqb-true (answer (stateOf fl area) m) 0 e in
-        more-same fl area k (min most left) most (movesFrom bytes (suc k) left) fit z
-        (rw add-one (run-same most left (stepAt fl area m .floor) (stepAt fl area m .area) (suc k) (step-fit fl area m fit z (stepAt fl area m) refl))))
+      more-same fl area k (min most left) most (movesFrom bytes (suc k) left) fit z
+      (rw add-one (run-same most left (stepAt fl area m .floor) (stepAt fl area m .area) (suc k) (step-fit fl area m fit z (stepAt fl area m) refl))))
       (λ e. stop-same fl area k (min most left) most (movesFrom bytes (suc k) left) fit (eqb-false (answer (stateOf fl area) m) 0 e))
       (decided (eqb (answer (stateOf fl area) m) 0)))
 
@@ -117,7 +117,7 @@ module _ (fl : Floor) (area : List ℕ) (m : Move) (fit : Fit fl area) where
   step-next =
       ⊎-elim
       (λ e. let z : answer (stateOf fl area) m ≡ 0 = eqb-true (answer (stateOf fl area) m) 0 e in
-        (step-state fl area m fit z (stepAt fl area m) refl, step-fit fl area m fit z (stepAt fl area m) refl))
+      (step-state fl area m fit z (stepAt fl area m) refl, step-fit fl area m fit z (stepAt fl area m) refl))
       (λ e. let z : answer (stateOf fl area) m ≢ 0 = eqb-false (answer (stateOf fl area) m) 0 e in
-        rw (← step-refused fl area m (answer (stateOf fl area) m) z refl, next-refused (stateOf fl area) m z) (refl, fit))
+      rw (← step-refused fl area m (answer (stateOf fl area) m) z refl, next-refused (stateOf fl area) m z) (refl, fit))
       (decided (eqb (answer (stateOf fl area) m) 0))

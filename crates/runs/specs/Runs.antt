@@ -1,5 +1,5 @@
 -- 'Running a sequence', of bytes on a floor and its note area: the steps of the rules, one record after another. Assumes nothing.
-use mathlib.Core.Bool.{Bool, not, cond, _||_}
+use mathlib.Core.Bool.{not, cond, _||_}
 use mathlib.Core.List.{List, [], _∷_, _++_}
 use Prim.Native.Nat.{ℕ, zero, suc, _*_, _/_, _%_, _-_, min}
 use lib.Dec.{eqb}

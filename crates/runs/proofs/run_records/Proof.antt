@@ -1,9 +1,7 @@
 -- `runs::run_records` meets its contract. The invariant: the run from what the arrays hold is what is left of the run. Assumes nothing.
-use mathlib.Core.Path.{_≡_, refl, sym, ap, _∙_}
-use Prim.Native.Nat.{ℕ, _-_, _+_, _*_, _≤_, _<_}
+use mathlib.Core.Path.{sym, _∙_}
+use Prim.Native.Nat.{_-_}
 use native.Mathlib.Omega.{arith}
-use lib.ListN.{length, take, drop}
-use lib.Seq.{length-take-le}
 use borrow.Author.Needs.{needs}
 use Rattle.floors.specs.Bridge.{Sized}
 use Rattle.actions.specs.Actions.{held}
