@@ -112,8 +112,8 @@ fn make(sort: Sort, mut random: Random) -> Vec<u8> {
             let settings = end_settings(&mut random);
             deep(random, settings).bytes
         }
-        Sort::Full => full(random, None),
-        Sort::Refused(11) => full(random, Some(11)),
+        Sort::Full => full(random, false),
+        Sort::Refused(11) => full(random, true),
         Sort::Refused(want) => refused(random, want),
         Sort::Outside => outside(random),
         Sort::Damaged => damaged(random),
@@ -229,9 +229,9 @@ fn refused(mut random: Random, want: u8) -> Vec<u8> {
     }
 }
 
-/// A desk passes on or announces when the area has just enough room, or just too little. Where an answer is wanted it is the
-/// last one.
-fn full(mut random: Random, want: Option<u8>) -> Vec<u8> {
+/// A desk passes on or announces when the area has just enough room, or just too little. The last answer is 11 if it has to be
+/// refused.
+fn full(mut random: Random, refused: bool) -> Vec<u8> {
     loop {
         let desks = random.pick(&[16, 16, 16, 13, 10, 7, 4]);
         let settings = Settings {
@@ -243,25 +243,24 @@ fn full(mut random: Random, want: Option<u8>) -> Vec<u8> {
             accept: random.pick(&[1, 3, 50, MOST_TICKS]),
         };
         let mut maker = Maker::open(Random::new(random.next()), settings, ROOM);
-        let refused = crowd(&mut maker, want.is_some());
-        if want.is_none() || refused {
+        if crowd(&mut maker, refused) || !refused {
             return maker.bytes;
         }
     }
 }
 
-/// Tells whether the last record is refused for want of room.
-fn crowd(maker: &mut Maker, too_many: bool) -> bool {
+/// Tells whether a record was refused for want of room in the area.
+fn crowd(maker: &mut Maker, refused: bool) -> bool {
     let settings = maker.settings();
+    let crashes = maker.random.between(0, settings.faults.into());
+    maker.crash_some(crashes);
+    let any = maker.some_desk();
+    let actor = maker.some_faulty().unwrap_or(any);
     // Some notes of an earlier time, and timers that are not 0.
     let early = maker.random.pick(&[0, 0, 300, 1_000]);
-    let actor = maker.some_desk();
     maker.fill(early, actor);
     let ticks = maker.slack();
     maker.attempt(Action::Delay { ticks });
-    let crashes = maker.random.between(0, settings.faults.into());
-    maker.crash_some(crashes);
-    let actor = maker.some_faulty().unwrap_or(actor);
 
     let entries: Vec<u8> = (0..maker.random.between(1, 3)).map(|_| maker.random.below(settings.entries.into()) as u8).collect();
     let action = if maker.random.one_in(3) {
@@ -284,8 +283,8 @@ fn crowd(maker: &mut Maker, too_many: bool) -> bool {
         let entry = maker.random.pick(&entries);
         maker.attempt(Action::FalseNote { desk: actor, destination, entry, time_out });
     }
-    let too_many = if too_many { maker.random.pick(&[1, 1, 2, 16]) } else { maker.random.pick(&[0, 0, 0, 1]) };
-    if !maker.press(actor, action, too_many) {
+    let too_many = if refused { maker.random.pick(&[1, 1, 2, 16]) } else { maker.random.pick(&[0, 0, 0, 1]) };
+    if maker.press(actor, action, too_many).is_err() {
         trail(maker);
         return true;
     }

@@ -244,7 +244,7 @@ impl Maker {
         }
     }
 
-    /// Posts notes until so many wait, if that can be had. The desk left out posts and receives nothing.
+    /// Posts notes until so many wait, if that can be had. The desk left out announces and receives nothing.
     pub fn fill(&mut self, target: usize, left_out: u8) {
         for _ in 0..20_000 {
             let waiting = self.floor.notes.len();
@@ -345,17 +345,13 @@ impl Maker {
         }
     }
 
-    /// Fills the area until the action just fits, or by so many notes just does not, and writes it. The first desk given is left
-    /// out, see fill. Tells whether the action was carried out.
-    pub fn press(&mut self, desk: u8, action: Action, too_many: usize) -> bool {
-        let before = self.floor.notes.len();
+    /// Fills the area until the action just fits, or by so many notes just does not, and writes it. The desk is left out of the
+    /// filling. Gives the action's answer.
+    pub fn press(&mut self, desk: u8, action: Action, too_many: usize) -> Result<(), Refusal> {
         let mut floor = self.floor.clone();
-        let needed = if floor.act(action).is_ok() { floor.notes.len() - before } else { 0 };
+        let needed = if floor.act(action).is_ok() { floor.notes.len() - self.floor.notes.len() } else { 0 };
         self.fill(MOST_NOTES - needed + too_many.min(needed), desk);
-        let done = self.attempt(action);
-        if !done {
-            self.write(action);
-        }
-        done
+        self.write(action);
+        self.floor.act(action)
     }
 }
