@@ -41,20 +41,20 @@ enum Sort {
 
 /// Each sort, and how often it comes in a turn.
 const SORTS: [(Sort, usize); 24] = [
-    (Sort::Deep, 10),
+    (Sort::Deep, 8),
     (Sort::Full, 7),
-    (Sort::Refused(3), 1),
-    (Sort::Refused(4), 1),
-    (Sort::Refused(5), 1),
-    (Sort::Refused(6), 1),
-    (Sort::Refused(7), 1),
-    (Sort::Refused(8), 1),
-    (Sort::Refused(9), 1),
-    (Sort::Refused(10), 1),
-    (Sort::Refused(11), 1),
-    (Sort::Refused(12), 1),
-    (Sort::Refused(13), 1),
-    (Sort::Refused(14), 1),
+    (Sort::Refused(3), 4),
+    (Sort::Refused(4), 2),
+    (Sort::Refused(5), 2),
+    (Sort::Refused(6), 2),
+    (Sort::Refused(7), 2),
+    (Sort::Refused(8), 2),
+    (Sort::Refused(9), 2),
+    (Sort::Refused(10), 2),
+    (Sort::Refused(11), 2),
+    (Sort::Refused(12), 2),
+    (Sort::Refused(13), 2),
+    (Sort::Refused(14), 2),
     (Sort::Ends, 4),
     (Sort::Outside, 3),
     (Sort::Damaged, 5),
@@ -188,12 +188,17 @@ fn deep(random: Random, settings: Settings) -> Maker {
     if maker.random.one_in(2) {
         maker.crash_some(settings.faults.into());
     }
-    let length = maker.random.pick(&[20, 80, 300, 800]);
-    maker.walk(length);
-    if !maker.random.one_in(3) {
-        maker.settle();
-        maker.walk(length / 4);
+    for _ in 0..maker.random.pick(&[1, 2, 5]) {
+        let length = maker.random.pick(&[20, 80, 250]);
+        maker.walk(length);
+        if maker.random.one_in(2) {
+            maker.settle();
+        }
+        maker.turn_to_other_entries();
     }
+    // The end is to come in the middle of things.
+    let length = maker.random.pick(&[0, 20, 60]);
+    maker.walk(length);
     maker
 }
 

@@ -47,18 +47,26 @@ impl Maker {
     /// Begins a sequence with settings within the limits.
     pub fn open(mut random: Random, settings: Settings, most: usize) -> Maker {
         let floor = Floor::open(settings).expect("settings within the limits");
-        let favourites = (0..random.between(1, 3)).map(|_| random.below(settings.entries.into()) as u8).collect();
         let mut moves = Vec::new();
         for kind in MOVES {
             let weights: &[usize] = match kind {
-                Move::Receive => &[5, 20, 80],
+                Move::Receive => &[3, 10, 40],
                 Move::Crash | Move::ResetTimers => &[0, 1, 3],
                 _ => &[1, 3, 10],
             };
             moves.resize(moves.len() + random.pick(weights), kind);
         }
         let bytes = record::write(Action::Opening(settings)).to_vec();
-        Maker { random, floor, bytes, most, favourites, moves }
+        let mut maker = Maker { random, floor, bytes, most, favourites: Vec::new(), moves };
+        maker.turn_to_other_entries();
+        maker
+    }
+
+    /// Takes other favourites: what is said about an entry comes to an end once every desk has sent it.
+    pub fn turn_to_other_entries(&mut self) {
+        let entries = self.settings().entries.into();
+        let count = self.random.between(1, 3);
+        self.favourites = (0..count).map(|_| self.random.below(entries) as u8).collect();
     }
 
     pub fn settings(&self) -> Settings {
@@ -273,7 +281,26 @@ impl Maker {
         }
     }
 
-    /// A record that is refused with the number wanted, 11 excepted, after what it takes to get there. None if it was not found.
+    /// One desk is the last to try, a faulty one if there is one: its timers alone hold up the clock, or one of them.
+    fn leave_behind(&mut self) {
+        self.settle();
+        let ticks = self.slack();
+        self.attempt(Action::Delay { ticks });
+        let any = self.some_desk();
+        let last = self.some_faulty().unwrap_or(any);
+        for desk in (0..self.settings().desks).filter(|desk| *desk != last) {
+            self.attempt(Action::PassOn { desk });
+            self.attempt(Action::Accept { desk });
+        }
+        match self.random.below(3) {
+            0 => self.attempt(Action::PassOn { desk: last }),
+            1 => self.attempt(Action::Accept { desk: last }),
+            _ => true,
+        };
+    }
+
+    /// A record that is refused with the number wanted, 11 excepted, after what it takes to get there. None if none was
+    /// found.
     pub fn refused(&mut self, want: u8) -> Option<[u8; RECORD]> {
         match want {
             7 | 10 => self.crash_some(1),
@@ -284,7 +311,11 @@ impl Maker {
                     self.attempt(note);
                 }
             }
-            13 => self.receive_all(),
+            13 => {
+                self.leave_behind();
+                let (desk, entry) = (self.some_desk(), self.some_entry());
+                self.attempt(Action::Announce { desk, entry });
+            }
             _ => {}
         }
         for _ in 0..500 {
@@ -324,11 +355,12 @@ impl Maker {
         let ticks = self.random.pick(&[slack + 1, slack + 1, slack + more, left, left + 1, u32::MAX, anything]);
         let kinds: &[u8] = match want {
             3 => &[0, 1, 2, 3, 4, 5, 6, 7, 8],
-            4 => &[1, 2, 3, 4, 5, 6, 7],
+            // Mostly of those kinds that can be wrong in more than one way.
+            4 => &[1, 1, 2, 3, 4, 4, 5, 6, 7, 7],
             5 => &[1, 4, 7],
             6 => &[4],
             7 | 9 => &[5],
-            8 => &[6, 7],
+            8 => &[6, 7, 7],
             10 => &[7],
             _ => &[0],
         };
