@@ -20,6 +20,8 @@ enum Sort {
     Full,
     /// A deep run that ends with the refusal of this number.
     Refused(u8),
+    /// A short run with such an end: those refusals need many sequences that are as different as their checks.
+    Short,
     /// Settings at the ends of their limits.
     Ends,
     /// An opening with settings outside the limits.
@@ -40,10 +42,10 @@ enum Sort {
 }
 
 /// Each sort, and how often it comes in a turn.
-const SORTS: [(Sort, usize); 24] = [
+const SORTS: [(Sort, usize); 25] = [
     (Sort::Deep, 8),
     (Sort::Full, 7),
-    (Sort::Refused(3), 4),
+    (Sort::Refused(3), 2),
     (Sort::Refused(4), 2),
     (Sort::Refused(5), 2),
     (Sort::Refused(6), 2),
@@ -55,8 +57,9 @@ const SORTS: [(Sort, usize); 24] = [
     (Sort::Refused(12), 2),
     (Sort::Refused(13), 2),
     (Sort::Refused(14), 2),
+    (Sort::Short, 10),
     (Sort::Ends, 4),
-    (Sort::Outside, 3),
+    (Sort::Outside, 6),
     (Sort::Damaged, 5),
     (Sort::Random, 1),
     (Sort::Ragged, 1),
@@ -114,7 +117,11 @@ fn make(sort: Sort, mut random: Random) -> Vec<u8> {
         }
         Sort::Full => full(random, false),
         Sort::Refused(11) => full(random, true),
-        Sort::Refused(want) => refused(random, want),
+        Sort::Refused(want) => refused(random, want, deep),
+        Sort::Short => {
+            let want = random.pick(&[3, 3, 3, 4, 4, 5, 8, 10]);
+            refused(random, want, short)
+        }
         Sort::Outside => outside(random),
         Sort::Damaged => damaged(random),
         Sort::Random => {
@@ -202,6 +209,12 @@ fn deep(random: Random, settings: Settings) -> Maker {
     maker
 }
 
+fn short(random: Random, settings: Settings) -> Maker {
+    let mut maker = Maker::open(random, settings, ROOM);
+    maker.walk(10);
+    maker
+}
+
 fn some_good(mut random: Random) -> Vec<u8> {
     let settings = some_settings(&mut random);
     deep(random, settings).bytes
@@ -217,7 +230,8 @@ fn trail(maker: &mut Maker) {
     }
 }
 
-fn refused(mut random: Random, want: u8) -> Vec<u8> {
+/// A run that ends with the refusal wanted.
+fn refused(mut random: Random, want: u8, run: fn(Random, Settings) -> Maker) -> Vec<u8> {
     loop {
         let mut settings = some_settings(&mut random);
         if matches!(want, 7 | 10 | 12) && settings.faults == 0 {
@@ -225,7 +239,7 @@ fn refused(mut random: Random, want: u8) -> Vec<u8> {
             settings.desks = 4;
             settings.faults = 1;
         }
-        let mut maker = deep(Random::new(random.next()), settings);
+        let mut maker = run(Random::new(random.next()), settings);
         if let Some(record) = maker.refused(want) {
             maker.bytes.extend(record);
             trail(&mut maker);
@@ -319,8 +333,12 @@ fn outside(mut random: Random) -> Vec<u8> {
         let ticks = random.pick(&[0, MOST_TICKS + 1, MOST_TICKS + 2, 1 << 24, u32::MAX]);
         match random.below(6) {
             0 => settings.desks = random.pick(&[0, MOST_DESKS + 1, byte]),
-            // 85 is where 3 f + 1 would be 0 in bytes.
-            1 => settings.faults = random.pick(&[(settings.desks + 2) / 3, 85, 86, byte]),
+            1 => {
+                settings.desks = random.between(1, MOST_DESKS.into()) as u8;
+                // 85 is where 3 f + 1 would be 0 in bytes.
+                let least = (settings.desks + 2) / 3;
+                settings.faults = random.pick(&[least, least, 85, byte]);
+            }
             2 => settings.entries = random.pick(&[0, MOST_ENTRIES + 1, byte]),
             3 => settings.message = ticks,
             4 => settings.pass_on = ticks,
@@ -328,7 +346,7 @@ fn outside(mut random: Random) -> Vec<u8> {
         }
     }
     let mut bytes = record::write(Action::Opening(settings)).to_vec();
-    if random.one_in(2) {
+    if random.one_in(4) {
         bytes.extend(&some_good(random)[RECORD..]);
     }
     bytes

@@ -322,8 +322,9 @@ impl Maker {
             let action = self.edgy(want);
             let mut bytes = record::write(action);
             if want == 3 && !self.random.one_in(4) {
-                // Mostly a field out of use, now and then the kind.
-                let place = self.random.place(&bytes);
+                // In every field as often, and in the low byte of a number or another.
+                let number = self.random.pick(&[4, 8, 12]) + self.random.pick(&[0, 0, 1, 2, 3]);
+                let place = self.random.pick(&[0, 1, 2, 3, number, number, number]);
                 bytes[place] = self.random.byte();
             }
             let answer = record::read(&bytes).and_then(|action| self.answer(action));
@@ -356,7 +357,7 @@ impl Maker {
         let kinds: &[u8] = match want {
             3 => &[0, 1, 2, 3, 4, 5, 6, 7, 8],
             // Mostly of those kinds that can be wrong in more than one way.
-            4 => &[1, 1, 2, 3, 4, 4, 5, 6, 7, 7],
+            4 => &[1, 1, 1, 2, 3, 4, 4, 4, 5, 6, 7, 7, 7],
             5 => &[1, 4, 7],
             6 => &[4],
             7 | 9 => &[5],
