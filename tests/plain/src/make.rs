@@ -57,7 +57,7 @@ const SORTS: [(Sort, usize); 25] = [
     (Sort::Refused(12), 2),
     (Sort::Refused(13), 2),
     (Sort::Refused(14), 2),
-    (Sort::Short, 10),
+    (Sort::Short, 16),
     (Sort::Ends, 4),
     (Sort::Outside, 6),
     (Sort::Damaged, 5),
@@ -73,7 +73,7 @@ const SORTS: [(Sort, usize); 25] = [
 fn sort_at(place: usize) -> Sort {
     let turn: Vec<Sort> = SORTS.iter().flat_map(|&(sort, often)| vec![sort; often]).collect();
     // In steps that have no divisor in common with the turn's length, so that the same sorts do not come in a row.
-    turn[place * 11 % turn.len()]
+    turn[place * 17 % turn.len()]
 }
 
 /// Writes sequences into the folder as 0000.seq, 0001.seq and so on. Gives the line that says how many of each sort.
@@ -119,7 +119,7 @@ fn make(sort: Sort, mut random: Random) -> Vec<u8> {
         Sort::Refused(11) => full(random, true),
         Sort::Refused(want) => refused(random, want, deep),
         Sort::Short => {
-            let want = random.pick(&[3, 3, 3, 4, 4, 5, 8, 10]);
+            let want = random.pick(&[3, 3, 3, 3, 4, 4, 5, 8, 10]);
             refused(random, want, short)
         }
         Sort::Outside => outside(random),
@@ -331,17 +331,17 @@ fn outside(mut random: Random) -> Vec<u8> {
     while settings.within_limits() {
         let byte = random.byte();
         let ticks = random.pick(&[0, MOST_TICKS + 1, MOST_TICKS + 2, 1 << 24, u32::MAX]);
-        match random.below(6) {
+        match random.below(7) {
             0 => settings.desks = random.pick(&[0, MOST_DESKS + 1, byte]),
-            1 => {
+            1 | 2 => {
                 settings.desks = random.between(1, MOST_DESKS.into()) as u8;
                 // 85 is where 3 f + 1 would be 0 in bytes.
                 let least = (settings.desks + 2) / 3;
                 settings.faults = random.pick(&[least, least, 85, byte]);
             }
-            2 => settings.entries = random.pick(&[0, MOST_ENTRIES + 1, byte]),
-            3 => settings.message = ticks,
-            4 => settings.pass_on = ticks,
+            3 => settings.entries = random.pick(&[0, MOST_ENTRIES + 1, byte]),
+            4 => settings.message = ticks,
+            5 => settings.pass_on = ticks,
             _ => settings.accept = ticks,
         }
     }

@@ -281,7 +281,7 @@ impl Maker {
         }
     }
 
-    /// One desk is the last to try, a faulty one if there is one: its timers alone hold up the clock, or one of them.
+    /// One desk is the last to try, a faulty one if there is one: its timers alone hold up the clock, mostly one of them.
     fn leave_behind(&mut self) {
         self.settle();
         let ticks = self.slack();
@@ -292,11 +292,12 @@ impl Maker {
             self.attempt(Action::PassOn { desk });
             self.attempt(Action::Accept { desk });
         }
-        match self.random.below(3) {
-            0 => self.attempt(Action::PassOn { desk: last }),
-            1 => self.attempt(Action::Accept { desk: last }),
-            _ => true,
-        };
+        // The timer with the shorter time is left alone.
+        if self.settings().accept < self.settings().pass_on {
+            self.attempt(Action::PassOn { desk: last });
+        } else if self.random.one_in(2) {
+            self.attempt(Action::Accept { desk: last });
+        }
     }
 
     /// A record that is refused with the number wanted, 11 excepted, after what it takes to get there. None if none was
@@ -321,7 +322,7 @@ impl Maker {
         for _ in 0..500 {
             let action = self.edgy(want);
             let mut bytes = record::write(action);
-            if want == 3 && !self.random.one_in(4) {
+            if want == 3 && !self.random.one_in(8) {
                 // In every field as often, and in the low byte of a number or another.
                 let number = self.random.pick(&[4, 8, 12]) + self.random.pick(&[0, 0, 1, 2, 3]);
                 let place = self.random.pick(&[0, 1, 2, 3, number, number, number]);
