@@ -334,7 +334,9 @@ fn outside(mut random: Random) -> Vec<u8> {
         match random.below(7) {
             0 => settings.desks = random.pick(&[0, MOST_DESKS + 1, byte]),
             1 | 2 => {
-                settings.desks = random.between(1, MOST_DESKS.into()) as u8;
+                // With a multiple of 3 the least is too many by one alone.
+                let any = random.between(1, MOST_DESKS.into()) as u8;
+                settings.desks = random.pick(&[any, 3, 6, 9, 12, 15]);
                 // 85 is where 3 f + 1 would be 0 in bytes.
                 let least = (settings.desks + 2) / 3;
                 settings.faults = random.pick(&[least, least, 85, byte]);
