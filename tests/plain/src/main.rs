@@ -1,0 +1,84 @@
+//! The rules of the floor written a second time, in plain Rust and by the words of the rules alone, so that a rule that was
+//! misread on one side shows as a difference. It shares no code with the crates.
+//!
+//! - `plain floor < SEQUENCE` prints what the program floor prints.
+//! - `plain dump < SEQUENCE` prints the same and then, for tests of the library: `note TIME-OUT SOURCE DESTINATION ENTRY` for
+//!   each waiting note in the order of the area; `received DESK ENTRY SET` for each set that is not empty; `sent DESK SET` for
+//!   each desk with a sent mark. A set is a decimal number whose bit i stands for the member i.
+//! - `plain write < TEXT` writes the sequence that a text describes; text.rs says how.
+//! - `plain make SEED COUNT DIR` makes sequences to try and says how many of each sort.
+
+mod answer;
+mod floor;
+mod make;
+mod moves;
+mod print;
+mod random;
+mod record;
+mod sequence;
+mod text;
+
+#[cfg(test)]
+mod cases;
+
+use answer::Refusal;
+use sequence::Outcome;
+use std::io::{self, Read, Write};
+use std::path::Path;
+use std::process::ExitCode;
+
+/// The longest input in bytes.
+const MOST_INPUT: usize = 65_536;
+
+const USAGE: &str = "usage: plain floor|dump|write < INPUT, or plain make SEED COUNT DIR";
+
+fn main() -> ExitCode {
+    let arguments: Vec<String> = std::env::args().skip(1).collect();
+    let arguments: Vec<&str> = arguments.iter().map(String::as_str).collect();
+    match command(&arguments) {
+        Ok(output) => match io::stdout().write_all(&output) {
+            Ok(()) => ExitCode::SUCCESS,
+            Err(error) => fail(&error.to_string()),
+        },
+        Err(message) => fail(&message),
+    }
+}
+
+fn fail(message: &str) -> ExitCode {
+    eprintln!("plain: {message}");
+    ExitCode::from(2)
+}
+
+/// Carries out a command and gives what it prints.
+fn command(arguments: &[&str]) -> Result<Vec<u8>, String> {
+    match arguments {
+        ["floor"] => Ok(print::floor(&run(&input()?)).into_bytes()),
+        ["dump"] => Ok(print::dump(&run(&input()?)).into_bytes()),
+        ["write"] => {
+            let text = io::read_to_string(io::stdin()).map_err(|error| error.to_string())?;
+            text::sequence(&text)
+        }
+        ["make", seed, count, folder] => {
+            let seed = seed.parse().map_err(|_| USAGE)?;
+            let count = count.parse().map_err(|_| USAGE)?;
+            let made = make::files(seed, count, Path::new(folder)).map_err(|error| error.to_string())?;
+            Ok(made.into_bytes())
+        }
+        _ => Err(USAGE.to_string()),
+    }
+}
+
+/// The input, but no more of it than is needed to see that it is too long.
+fn input() -> Result<Vec<u8>, String> {
+    let mut bytes = Vec::with_capacity(MOST_INPUT + 1);
+    let most = MOST_INPUT as u64 + 1;
+    io::stdin().lock().take(most).read_to_end(&mut bytes).map_err(|error| error.to_string())?;
+    Ok(bytes)
+}
+
+fn run(input: &[u8]) -> Outcome {
+    if input.len() > MOST_INPUT {
+        return Outcome::unopened(Refusal::Length);
+    }
+    sequence::run(input)
+}

@@ -1,0 +1,54 @@
+//! What is printed of an outcome.
+
+use crate::answer::number;
+use crate::floor::members;
+use crate::sequence::Outcome;
+use std::fmt::Write;
+
+/// What the program floor prints.
+pub fn floor(outcome: &Outcome) -> String {
+    let mut out = String::new();
+    lines(outcome, &mut out).expect("a String takes every line");
+    out
+}
+
+/// The same, and then what floor keeps to itself: the notes in the order of the area, and the sets that are not empty.
+pub fn dump(outcome: &Outcome) -> String {
+    let mut out = floor(outcome);
+    inner_lines(outcome, &mut out).expect("a String takes every line");
+    out
+}
+
+fn lines(outcome: &Outcome, out: &mut String) -> std::fmt::Result {
+    writeln!(out, "ran {} answer {}", outcome.ran, number(&outcome.answer))?;
+    let Some(floor) = &outcome.floor else { return Ok(()) };
+    writeln!(out, "clock {} pending {}", floor.clock, floor.notes.len())?;
+    for (place, desk) in floor.desks.iter().enumerate() {
+        let mark = if desk.faulty { "faulty" } else { "good" };
+        write!(out, "desk {place} {mark} {} {}", desk.pass_on_timer, desk.accept_timer)?;
+        if desk.listed == 0 {
+            write!(out, " -")?;
+        }
+        for entry in members(desk.listed) {
+            write!(out, " {entry}")?;
+        }
+        writeln!(out)?;
+    }
+    Ok(())
+}
+
+fn inner_lines(outcome: &Outcome, out: &mut String) -> std::fmt::Result {
+    let Some(floor) = &outcome.floor else { return Ok(()) };
+    for note in &floor.notes {
+        writeln!(out, "note {} {} {} {}", note.time_out, note.source, note.destination, note.entry)?;
+    }
+    for (place, desk) in floor.desks.iter().enumerate() {
+        for (entry, sources) in desk.received.iter().enumerate().filter(|(_, sources)| **sources != 0) {
+            writeln!(out, "received {place} {entry} {sources}")?;
+        }
+    }
+    for (place, desk) in floor.desks.iter().enumerate().filter(|(_, desk)| desk.sent != 0) {
+        writeln!(out, "sent {place} {}", desk.sent)?;
+    }
+    Ok(())
+}
