@@ -1,0 +1,188 @@
+-- The ways out of a run, of the part not carried out, and of a whole sequence. Assumes nothing.
+use mathlib.Core.Path.{_≡_, refl, sym, ap, _∙_, subst}
+use mathlib.Core.Bool.{Bool, true, false, not, cond, _&&_, _||_}
+use mathlib.Core.Logic.{_≢_, ⊎-elim}
+use mathlib.Core.List.{List, [], _∷_, _++_}
+use Prim.Native.Nat.{ℕ, zero, suc, _+_, _-_, _*_, _/_, _%_, _≤_, _<_, min, zero-le}
+use native.Mathlib.Nat.{le-refl}
+use native.Mathlib.Omega.{arith}
+use lib.Dec.{eqb, leb}
+use lib.ListN.{length, take, drop, replicate, length-drop, length-replicate, drop-of-length-le}
+use lib.Seq.{length-take-le, take-all, drop-length}
+use borrow.Author.Tests.{eq-eqb, ne-eqb, eqb-true, eqb-false, le-leb, not-false}
+use Rattle.sets.proofs.Tests.{was-true, was-false, and-both, and-left, decided, cond-true, or-none}
+use Rattle.rules.specs.Rules.{State, firstOf, _when_, Check, mostNotes, withinLimits, fresh, inShape}
+use Rattle.rules.proofs.CheckLaws.{first-none, first-fails, first-passes, zero-passed, not-zero}
+use Rattle.rules.proofs.Effects.{fresh-whole}
+use Rattle.rules.proofs.Shapes.{Shape, in-shape}
+use Rattle.rules.proofs.ShapeKept.{fresh-shape}
+use Rattle.records.specs.Records.{wellFormed, actionOf, readOf, zeros}
+use Rattle.records.specs.declared.Action.{Action}
+use Rattle.records.specs.declared.Reading.{Reading}
+use Rattle.records.proofs.RecordLaws.{read-good, read-zeros}
+use Rattle.floors.specs.Bridge.{settingsOf, stateOf, floorOf, noFloor}
+use Rattle.floors.specs.declared.Floor.{Floor}
+use Rattle.floors.proofs.Bridge.{there}
+use Rattle.actions.specs.Actions.{Outcome, refusal, inShapeAt, callChecks, settingsIn, openingChecks, opened}
+use Rattle.actions.proofs.Calls.{open-3}
+use Rattle.runs.specs.Runs.{Went, wentFrom, stopped, runChecks, went, restOf, wholeChecks, afterOpening, wholeWent}
+use Rattle.runs.proofs.RunLaws.{record-good}
+
+-- ---- a run
+
+module _ (fl : Floor) (area bytes : List ℕ) (most : ℕ) where
+  run-refused : (number : ℕ) → eqb number 0 ≡ false → firstOf (runChecks fl area bytes) ≡ number → stopped number fl area ≡ went fl area bytes most
+  unfolding went
+  run-refused number some e = rw (e, some)
+
+  pub run-15 : length area ≢ mostNotes → stopped 15 fl area ≡ went fl area bytes most
+  unfolding runChecks callChecks
+  run-15 h = run-refused 15 refl (first-fails 15 (not (eqb (length area) mostNotes)) _ (ap not (ne-eqb (length area) mostNotes h)))
+
+  module _ (long : length area ≡ mostNotes) (fits : Bool) (s : fits ≡ inShapeAt fl area) where
+    sized : firstOf (runChecks fl area bytes) ≡ firstOf (1 when not (inShapeAt fl area) ∷ 16 when not (eqb (length bytes % 16) 0) ∷ [])
+    unfolding runChecks callChecks
+    sized = first-passes 15 (not (eqb (length area) mostNotes)) _ (ap not (eq-eqb (length area) mostNotes long))
+
+    pub run-1 : not fits ≡ true → stopped 1 fl area ≡ went fl area bytes most
+    run-1 y = run-refused 1 refl (sized ∙ first-fails 1 (not (inShapeAt fl area)) _ (ap not (was-false s y)))
+
+    module _ (y : not fits ≡ false) where
+      shaped : firstOf (runChecks fl area bytes) ≡ firstOf (16 when not (eqb (length bytes % 16) 0) ∷ [])
+      shaped = sized ∙ first-passes 1 (not (inShapeAt fl area)) _ (ap not (was-true s y))
+
+      pub run-16 : (length bytes % 16 ≡ 0 → ⊥) → stopped 16 fl area ≡ went fl area bytes most
+      run-16 h = run-refused 16 refl (shaped ∙ first-fails 16 (not (eqb (length bytes % 16) 0)) [] (ap not (ne-eqb (length bytes % 16) 0 h)))
+
+      pub run-0 : length bytes % 16 ≡ 0 → (limit : ℕ) → limit ≡ min most (length bytes / 16) → (r : Went) → r ≡ wentFrom limit fl area bytes 0 → r ≡ went fl area bytes most
+      unfolding went
+      run-0 h limit l r e =
+          rw (eq-eqb (firstOf (runChecks fl area bytes)) 0 (shaped ∙ first-passes 16 (not (eqb (length bytes % 16) 0)) [] (ap not (eq-eqb (length bytes % 16) 0 h)) ∙ first-none))
+          (e ∙ ap (λ (n : ℕ). wentFrom n fl area bytes 0) l)
+
+-- so many records are there
+pub limit-fits : (bytes : List ℕ) (limit most : ℕ) → limit ≡ min most (length bytes / 16) → 16 * limit ≤ length bytes
+limit-fits bytes limit most e = omega arith
+
+-- ---- the part not carried out
+
+tail : (bytes : List ℕ) (at : ℕ) → at ≤ length bytes → take (length bytes - at) (drop at bytes) ≡ drop at bytes
+tail bytes at h = take-all (length bytes - at) (drop at bytes) (simp length-drop (omega arith))
+
+pub rest-there : (bytes : List ℕ) (count : ℕ) → count ≤ length bytes / 16 → take (length bytes - 16 * count) (drop (16 * count) bytes) ≡ restOf bytes count
+unfolding restOf
+rest-there bytes count h = tail bytes (16 * count) (omega arith)
+
+pub rest-past : (bytes : List ℕ) (count : ℕ) → length bytes / 16 < count → take (length bytes - length bytes) (drop (length bytes) bytes) ≡ restOf bytes count
+unfolding restOf
+rest-past bytes count h =
+    let far : length bytes ≤ 16 * count = omega arith in
+    tail bytes (length bytes) (le-refl (length bytes)) ∙ drop-length bytes ∙ sym (drop-of-length-le bytes far)
+
+-- ---- an opening that was read
+
+-- a kind that is not 8
+not-eight : (b : Bool) → not (b && false) ≡ true
+not-eight true = refl
+not-eight false = refl
+
+module _ (area bytes : List ℕ) (r : Reading) (is : r ≡ readOf bytes) (sixteen : length bytes ≡ 16) (long : length area ≡ mostNotes) where
+  -- a refused reading gives the action of zeros, which opens nothing either
+  pub opened-read : opened area (r .action) ≡ opened area (actionOf bytes)
+  opened-read = go (eqb (r .answer) 0) refl
+    where
+      formed : eqb (r .answer) 0 ≡ false → wellFormed (actionOf bytes) ≡ false
+      formed e = ⊎-elim (λ w. absurd (eqb-false (r .answer) 0 e (ap (λ (y : Reading). y .answer) (is ∙ sym (read-good bytes sixteen w))))) (λ f. f) (decided (wellFormed (actionOf bytes)))
+
+      none : eqb (r .answer) 0 ≡ false → r .action ≡ zeros
+      none e = ap (λ (y : Reading). y .action) is ∙ read-zeros bytes (λ z. eqb-false (r .answer) 0 e (ap (λ (y : Reading). y .answer) is ∙ z))
+
+      go : (b : Bool) → eqb (r .answer) 0 ≡ b → opened area (r .action) ≡ opened area (actionOf bytes)
+      go true e = ap (opened area) (record-good bytes r is (eqb-true (r .answer) 0 e) .1)
+      go false e =
+          ap (opened area) (none e) ∙ sym (open-3 area zeros long (wellFormed zeros) refl (not-eight (wellFormed zeros)) noFloor refl)
+          ∙ open-3 area (actionOf bytes) long (wellFormed (actionOf bytes)) refl (rw (formed e)) noFloor refl
+
+-- a floor that was opened is in shape
+module _ (area : List ℕ) (x : Action) (e : opened area x .answer ≡ 0) where
+  passed : firstOf (openingChecks area x) ≡ 0
+  unfolding opened
+  passed = go (eqb (firstOf (openingChecks area x)) 0) refl e
+    where
+      go : (b : Bool) → eqb (firstOf (openingChecks area x)) 0 ≡ b
+          → cond b (record { answer = 0; floor = floorOf (fresh (settingsOf (settingsIn x))); area = replicate (length area) 0 }) (refusal (firstOf (openingChecks area x)) noFloor area) .answer ≡ 0
+          → firstOf (openingChecks area x) ≡ 0
+      go true q z = eqb-true (firstOf (openingChecks area x)) 0 q
+      go false q z = z
+
+  limits : withinLimits (settingsOf (settingsIn x)) ≡ true
+  unfolding openingChecks
+  limits = not-false (withinLimits (settingsOf (settingsIn x))) (zero-passed (openingChecks area x) (not-zero 15 refl, (not-zero 3 refl, (not-zero 2 refl, tt))) passed .1 .1 .0)
+
+  pub opened-is : opened area x ≡ record { answer = 0; floor = floorOf (fresh (settingsOf (settingsIn x))); area = replicate (length area) 0 }
+  unfolding opened
+  opened-is = cond-true (eqb (firstOf (openingChecks area x)) 0) (record { answer = 0; floor = floorOf (fresh (settingsOf (settingsIn x))); area = replicate (length area) 0 }) (refusal (firstOf (openingChecks area x)) noFloor area) (eq-eqb (firstOf (openingChecks area x)) 0 passed)
+
+  pub opened-state : stateOf (opened area x .floor) (opened area x .area) ≡ fresh (settingsOf (settingsIn x))
+  unfolding fresh
+  opened-state = ap (λ (o : Outcome). stateOf (o .floor) (o .area)) opened-is ∙ there (fresh (settingsOf (settingsIn x))) (fresh-whole (settingsOf (settingsIn x))) (replicate (length area) 0) refl
+
+  pub opened-shape : inShapeAt (opened area x .floor) (opened area x .area) ≡ true
+  unfolding inShapeAt fresh
+  opened-shape =
+      and-both (leb (opened area x .floor .waiting) mostNotes) (inShape (stateOf (opened area x .floor) (opened area x .area)))
+      (le-leb (opened area x .floor .waiting) mostNotes (subst (λ (o : Outcome). o .floor .waiting ≤ mostNotes) (sym opened-is) zero-le))
+      (ap inShape opened-state ∙ in-shape (fresh (settingsOf (settingsIn x))) (fresh-shape (settingsOf (settingsIn x)) limits))
+
+-- ---- a whole sequence
+
+module _ (area bytes : List ℕ) where
+  whole-refused : (number : ℕ) → eqb number 0 ≡ false → firstOf (wholeChecks area bytes) ≡ number → stopped number noFloor area ≡ wholeWent area bytes
+  unfolding wholeWent
+  whole-refused number some e = rw (e, some)
+
+  pub whole-15 : length area ≢ mostNotes → (fl : Floor) → fl ≡ noFloor → stopped 15 fl area ≡ wholeWent area bytes
+  unfolding wholeChecks
+  whole-15 h fl q = rw q (whole-refused 15 refl (first-fails 15 (not (eqb (length area) mostNotes)) _ (ap not (ne-eqb (length area) mostNotes h))))
+
+  module _ (long : length area ≡ mostNotes) where
+    ragged : firstOf (wholeChecks area bytes) ≡ firstOf (16 when (eqb (length bytes) 0 || not (eqb (length bytes % 16) 0)) ∷ [])
+    unfolding wholeChecks
+    ragged = first-passes 15 (not (eqb (length area) mostNotes)) _ (ap not (eq-eqb (length area) mostNotes long))
+
+    pub whole-16 : (eqb (length bytes) 0 || not (eqb (length bytes % 16) 0)) ≡ true → (fl : Floor) → fl ≡ noFloor → stopped 16 fl area ≡ wholeWent area bytes
+    whole-16 h fl q = rw q (whole-refused 16 refl (ragged ∙ first-fails 16 (eqb (length bytes) 0 || not (eqb (length bytes % 16) 0)) [] h))
+
+    module _ (h : (eqb (length bytes) 0 || not (eqb (length bytes % 16) 0)) ≡ false) where
+      -- one record at least, and none cut short
+      pub records-there : (16 ≤ length bytes) × (length bytes % 16 ≡ 0)
+      records-there =
+          let (some, even) = or-none (eqb (length bytes) 0) (not (eqb (length bytes % 16) 0)) h in
+          let full : length bytes % 16 ≡ 0 = eqb-true (length bytes % 16) 0 (not-false (eqb (length bytes % 16) 0) even) in
+          let more : length bytes ≢ 0 = eqb-false (length bytes) 0 some in
+          (omega arith, full)
+
+      first : wholeWent area bytes ≡ afterOpening (opened area (actionOf (take 16 bytes))) bytes
+      unfolding wholeWent
+      first = rw (eq-eqb (firstOf (wholeChecks area bytes)) 0 (ragged ∙ first-passes 16 (eqb (length bytes) 0 || not (eqb (length bytes % 16) 0)) [] h ∙ first-none))
+
+      -- o is what the opening left
+      module _ (o : Outcome) (is : o ≡ opened area (actionOf (take 16 bytes))) where
+        pub whole-stops : (o .answer ≡ 0 → ⊥) → record { count = 0; out = o } ≡ wholeWent area bytes
+        unfolding afterOpening
+        whole-stops z = sym (first ∙ rw (← is, ne-eqb (o .answer) 0 z))
+
+        -- what the records after the opening are carried out on
+        pub whole-ready : o .answer ≡ 0 → (inShapeAt (o .floor) (o .area) ≡ true) × (length (o .area) ≡ mostNotes) × (16 * (length bytes / 16 - 1) ≤ length (take (length bytes - 16) (drop 16 bytes)))
+        whole-ready z =
+            let x = actionOf (take 16 bytes) in
+            let e : opened area x .answer ≡ 0 = ap (λ (y : Outcome). y .answer) (sym is) ∙ z in
+            let (more, even) = records-there in (
+              subst (λ (y : Outcome). inShapeAt (y .floor) (y .area) ≡ true) (sym is) (opened-shape area x e),
+              ap (λ (y : Outcome). length (y .area)) (is ∙ opened-is area x e) ∙ length-replicate (length area) 0 ∙ long,
+              rw (tail bytes 16 more, length-drop 16 bytes) (omega arith),
+            )
+
+        pub whole-runs : o .answer ≡ 0 → (r : Went) → r ≡ wentFrom (length bytes / 16 - 1) (o .floor) (o .area) (take (length bytes - 16) (drop 16 bytes)) 0 → r ≡ wholeWent area bytes
+        unfolding afterOpening
+        whole-runs z r e = sym (first ∙ rw (← is, eq-eqb (o .answer) 0 z) (sym (e ∙ ap (λ (b : List ℕ). wentFrom (length bytes / 16 - 1) (o .floor) (o .area) b 0) (tail bytes 16 (records-there .0)))))

@@ -1,0 +1,71 @@
+-- 'Running a sequence', of bytes on a floor and its note area: the steps of the rules, one record after another. Assumes nothing.
+use mathlib.Core.Bool.{Bool, not, cond, _||_}
+use mathlib.Core.List.{List, [], _∷_, _++_}
+use Prim.Native.Nat.{ℕ, zero, suc, _*_, _/_, _%_, _-_, min}
+use lib.Dec.{eqb}
+use lib.ListN.{length, take, drop}
+use Rattle.rules.specs.Rules.{Move, Check, _when_, firstOf, mostNotes}
+use Rattle.records.specs.Records.{actionOf, recordAt}
+use Rattle.floors.specs.Bridge.{noFloor}
+use Rattle.floors.specs.declared.Floor.{Floor}
+use Rattle.actions.specs.Actions.{Outcome, moveOf, stepAt, callChecks, opened}
+
+-- ---- the moves of a sequence
+
+-- the move that record k asks for
+unfoldable pub moveAt : List ℕ → ℕ → Move
+moveAt bytes k = moveOf (actionOf (recordAt bytes k))
+
+-- the moves of n records, from record k on
+unfoldable pub movesFrom : List ℕ → ℕ → ℕ → List Move
+movesFrom bytes k zero = []
+movesFrom bytes k (suc n) = moveAt bytes k ∷ movesFrom bytes (suc k) n
+
+-- ---- a run
+
+-- "It reports how many records it carried out .. and the last number"; the floor and the area come with them
+pub record Went : Type 0 where
+  pub count : ℕ
+  pub out : Outcome
+
+-- at most n records, from record k on, up to the first that is refused
+unfoldable pub wentFrom : ℕ → Floor → List ℕ → List ℕ → ℕ → Went
+wentFrom zero fl area bytes k = record { count = k; out = record { answer = 0; floor = fl; area = area } }
+wentFrom (suc n) fl area bytes k =
+    let o = stepAt fl area (moveAt bytes k) in
+    cond (eqb (o .answer) 0) (wentFrom n (o .floor) (o .area) bytes (suc k)) (record { count = k; out = o })
+
+abbrev pub stopped : ℕ → Floor → List ℕ → Went
+stopped number fl area = record { count = 0; out = record { answer = number; floor = fl; area = area } }
+
+-- "If the length isn't a multiple of 16 the run answers 16 after 15 and 1"
+unfoldable pub runChecks : Floor → List ℕ → List ℕ → List Check
+runChecks fl area bytes = callChecks fl area ++ 16 when not (eqb (length bytes % 16) 0) ∷ []
+
+-- A RUN: "a floor, records without an opening, and the most records it may carry out"
+unfoldable pub went : Floor → List ℕ → List ℕ → ℕ → Went
+went fl area bytes most =
+    let number = firstOf (runChecks fl area bytes) in
+    cond (eqb number 0) (wentFrom (min most (length bytes / 16)) fl area bytes 0) (stopped number fl area)
+
+-- ---- the part not carried out
+
+-- "the part of the sequence not carried out, as the caller's own bytes"; "a count that reaches past the end gives the empty part at the end"
+unfoldable pub restOf : List ℕ → ℕ → List ℕ
+restOf bytes count = drop (16 * count) bytes
+
+-- ---- a whole sequence
+
+-- "16: whole sequence empty, or its length not a multiple of 16", after 15
+unfoldable pub wholeChecks : List ℕ → List ℕ → List Check
+wholeChecks area bytes = 15 when not (eqb (length area) mostNotes) ∷ 16 when (eqb (length bytes) 0 || not (eqb (length bytes % 16) 0)) ∷ []
+
+-- what follows the opening: "An opening stands first in a whole sequence and nowhere else"; the count leaves it out
+unfoldable pub afterOpening : Outcome → List ℕ → Went
+afterOpening o bytes = cond (eqb (o .answer) 0) (wentFrom (length bytes / 16 - 1) (o .floor) (o .area) (drop 16 bytes) 0) (record { count = 0; out = o })
+
+-- A WHOLE SEQUENCE: "a whole sequence refused before it opens, gives a floor of zeros .. and doesn't clear the area"
+unfoldable pub wholeWent : List ℕ → List ℕ → Went
+wholeWent area bytes =
+    let number = firstOf (wholeChecks area bytes) in
+    cond (eqb number 0) (afterOpening (opened area (actionOf (take 16 bytes))) bytes) (stopped number noFloor area)

@@ -1,0 +1,220 @@
+// Runs of action records: a run on a floor, the part of the sequence that it has not carried out, and a whole
+// sequence, which opens its floor itself.
+use actions::Acted;
+use actions::head::Head;
+use actions::head::answered;
+use actions::shape::in_shape;
+use actions::step::step;
+use floors::Floor;
+use floors::Settings;
+ghost use mathlib.Core.Path.{_≡_};
+ghost use mathlib.Core.Bool.{true};
+ghost use Prim.Native.Nat.{_≤_, _*_, min};
+ghost use lib.ListN.{length};
+ghost use Rattle.rules.specs.Rules.{mostNotes};
+ghost use Rattle.records.specs.Records.{actionOf};
+ghost use Rattle.actions.specs.Actions.{Ready, held, left, stepAt, moveOf, inShapeAt};
+ghost use Rattle.runs.specs.Runs.{wentFrom, went, restOf, wholeWent};
+
+pub struct Ran {
+    pub count: usize,
+    pub answer: u8,
+    pub floor: Floor,
+}
+
+// One record on a floor that is taken apart.
+fn step_record(
+    settings: Settings,
+    head: Head,
+    bytes: &[u8],
+    faulty: &mut [bool; 16],
+    pass: &mut [u32; 16],
+    accept: &mut [u32; 16],
+    listed: &mut [u64; 16],
+    sent: &mut [u64; 16],
+    received: &mut [u16; 1024],
+    area: &mut [u64],
+) -> Head
+    requires { ⌜ Ready settings head (length (now area)) × (length (now bytes) ≡ 16) ⌝ }
+    ensures { λ r. ⌜ left settings r (now (faulty .exit)) (now (pass .exit)) (now (accept .exit)) (now (listed .exit)) (now (sent .exit)) (now (received .exit)) (now (area .exit))
+        ≡ stepAt (held settings head (now (faulty .entry)) (now (pass .entry)) (now (accept .entry)) (now (listed .entry)) (now (sent .entry)) (now (received .entry))) (now (area .entry)) (moveOf (actionOf (now (bytes .entry)))) ⌝ }
+{
+    let reading = records::read(bytes);
+    if reading.answer != 0 {
+        return answered(3, head);
+    }
+    let action = reading.action;
+    step(
+        settings,
+        head,
+        action,
+        faulty,
+        pass,
+        accept,
+        listed,
+        sent,
+        received,
+        area,
+    )
+}
+
+// At most `limit` records of the sequence, up to the first that is refused. The floor is taken apart once for all of them.
+fn run_records(floor: Floor, area: &mut [u64], sequence: &[u8], limit: usize) -> Ran
+    requires { ⌜ (inShapeAt floor (now area) ≡ true) × (length (now area) ≡ mostNotes) × (16 * limit ≤ length (now sequence)) ⌝ }
+    ensures { λ r. ⌜ record { count = r .count; out = record { answer = r .answer; floor = r .floor; area = now (area .exit) } } ≡ wentFrom limit floor (now (area .entry)) (now (sequence .entry)) 0 ⌝ }
+{
+    let settings = floor.settings;
+    let mut faulty = floor.faulty;
+    let mut pass = floor.pass;
+    let mut accept = floor.accept;
+    let mut listed = floor.listed;
+    let mut sent = floor.sent;
+    let mut received = floor.received;
+    let mut head = Head {
+        answer: 0,
+        clock: floor.clock,
+        waiting: floor.waiting,
+    };
+    let mut count: usize = 0;
+    while count < limit {
+        let at = 16 * count;
+        let end = at + 16;
+        head = step_record(
+            settings,
+            head,
+            &sequence[at..end],
+            &mut faulty,
+            &mut pass,
+            &mut accept,
+            &mut listed,
+            &mut sent,
+            &mut received,
+            area,
+        );
+        if head.answer != 0 {
+            break;
+        }
+        count += 1;
+    }
+    Ran {
+        count: count,
+        answer: head.answer,
+        floor: Floor {
+            settings: settings,
+            clock: head.clock,
+            waiting: head.waiting,
+            faulty: faulty,
+            pass: pass,
+            accept: accept,
+            listed: listed,
+            sent: sent,
+            received: received,
+        },
+    }
+}
+
+fn least(a: usize, b: usize) -> usize
+    ensures { λ r. ⌜ r ≡ min a b ⌝ }
+{
+    if a < b { a } else { b }
+}
+
+// Whether a floor handed in is in shape.
+fn shape_holds(floor: Floor, area: &[u64]) -> bool
+    requires { ⌜ length (now area) ≡ mostNotes ⌝ }
+    ensures { λ r. ⌜ r ≡ inShapeAt floor (now (area .entry)) ⌝ }
+{
+    let settings = floor.settings;
+    let faulty = floor.faulty;
+    let pass = floor.pass;
+    let accept = floor.accept;
+    let listed = floor.listed;
+    let sent = floor.sent;
+    let received = floor.received;
+    in_shape(
+        settings,
+        floor.clock,
+        floor.waiting,
+        &faulty,
+        &pass,
+        &accept,
+        &listed,
+        &sent,
+        &received,
+        area,
+    )
+}
+
+// A run on a floor: at most `most` records, up to the first that is refused.
+pub fn run(floor: Floor, area: &mut [u64], sequence: &[u8], most: usize) -> Ran
+    ensures { λ r. ⌜ record { count = r .count; out = record { answer = r .answer; floor = r .floor; area = now (area .exit) } } ≡ went floor (now (area .entry)) (now (sequence .entry)) most ⌝ }
+{
+    if area.len() != Settings::NOTES {
+        return Ran {
+            count: 0,
+            answer: 15,
+            floor: floor,
+        };
+    }
+    if !shape_holds(floor, area) {
+        return Ran {
+            count: 0,
+            answer: 1,
+            floor: floor,
+        };
+    }
+    if sequence.len() % 16 != 0 {
+        return Ran {
+            count: 0,
+            answer: 16,
+            floor: floor,
+        };
+    }
+    let limit = least(most, sequence.len() / 16);
+    run_records(floor, area, sequence, limit)
+}
+
+// The part of a sequence that begins with the record after so many.
+pub fn rest(sequence: &[u8], count: usize) -> &[u8]
+    ensures { λ r. ⌜ now r ≡ restOf (now (sequence .entry)) count ⌝ }
+{
+    let end = sequence.len();
+    if end / 16 < count {
+        return &sequence[end..];
+    }
+    let at = 16 * count;
+    &sequence[at..]
+}
+
+// A whole sequence: an opening, and a run of all the records after it on the floor that it opens.
+pub fn whole(area: &mut [u64], sequence: &[u8]) -> Ran
+    ensures { λ r. ⌜ record { count = r .count; out = record { answer = r .answer; floor = r .floor; area = now (area .exit) } } ≡ wholeWent (now (area .entry)) (now (sequence .entry)) ⌝ }
+{
+    if area.len() != Settings::NOTES {
+        return Ran {
+            count: 0,
+            answer: 15,
+            floor: Floor::none(),
+        };
+    }
+    if (sequence.len() == 0) | (sequence.len() % 16 != 0) {
+        return Ran {
+            count: 0,
+            answer: 16,
+            floor: Floor::none(),
+        };
+    }
+    let reading = records::read(&sequence[..16]);
+    let first = reading.action;
+    let opened = actions::open(first, area);
+    let floor = opened.floor;
+    if opened.answer != 0 {
+        return Ran {
+            count: 0,
+            answer: opened.answer,
+            floor: floor,
+        };
+    }
+    let limit = sequence.len() / 16 - 1;
+    run_records(floor, area, &sequence[16..], limit)
+}
