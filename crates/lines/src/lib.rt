@@ -1,6 +1,8 @@
-// What the programs print, put into a lent place as text. Each call puts its text from `at` on and answers where the
-// text ends. A number has at most 20 digits, and the room that a call asks for counts 20 for each.
+// What the programs share: an input is run, and the outcome put into a lent place as text. Each call for text puts it
+// from `at` on and answers where it ends. A number has at most 20 digits, and the room that a call asks for counts 20
+// for each.
 use floors::Floor;
+use runs::Ran;
 use sets::EntryNo;
 use sets::EntrySet;
 ghost use mathlib.Core.Path.{_≡_};
@@ -8,6 +10,7 @@ ghost use mathlib.Core.Bool.{cond};
 ghost use mathlib.Core.List.{[], _++_};
 ghost use Prim.Native.Nat.{_+_, _≤_, min};
 ghost use lib.ListN.{length};
+ghost use Rattle.lines.specs.Input.{inputWent};
 ghost use Rattle.lines.specs.Lines.{
   Puts,
   decimal,
@@ -21,6 +24,20 @@ ghost use Rattle.lines.specs.Lines.{
   desksBelow,
   outcomeText,
 };
+
+// A whole sequence as a program runs it: above 64 KiB it is refused.
+pub fn run_input(area: &mut [u64], input: &[u8]) -> Ran
+    ensures { λ r. ⌜ record { count = r .count; out = record { answer = r .answer; floor = r .floor; area = now (area .exit) } } ≡ inputWent (now (area .entry)) (now (input .entry)) ⌝ }
+{
+    if 65536 < input.len() {
+        return Ran {
+            count: 0,
+            answer: 16,
+            floor: Floor::none(),
+        };
+    }
+    runs::whole(area, input)
+}
 
 pub fn word(out: &mut [u8], at: usize, text: &[u8]) -> usize
     requires { ⌜ at + length (now text) ≤ length (now out) ⌝ }
