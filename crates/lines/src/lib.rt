@@ -1,0 +1,201 @@
+// What the programs share: an input is run, and the outcome put into a lent place as text. Each call for text puts it
+// from `at` on and answers where it ends. A number has at most 20 digits, and the room that a call asks for counts 20
+// for each.
+use floors::Floor;
+use runs::Ran;
+use sets::EntryNo;
+use sets::EntrySet;
+ghost use mathlib.Core.Path.{_≡_};
+ghost use mathlib.Core.Bool.{cond};
+ghost use mathlib.Core.List.{[], _++_};
+ghost use Prim.Native.Nat.{_+_, _≤_, min};
+ghost use lib.ListN.{length};
+ghost use Rattle.lines.specs.Input.{inputWent};
+ghost use Rattle.lines.specs.Lines.{
+  Puts,
+  decimal,
+  space,
+  faultyWord,
+  goodWord,
+  entriesBelow,
+  entriesText,
+  twoNumbers,
+  deskLine,
+  desksBelow,
+  outcomeText,
+};
+
+// A whole sequence as a program runs it: above 64 KiB it is refused.
+pub fn run_input(area: &mut [u64], input: &[u8]) -> Ran
+    ensures { λ r. ⌜ record { count = r .count; out = record { answer = r .answer; floor = r .floor; area = now (area .exit) } } ≡ inputWent (now (area .entry)) (now (input .entry)) ⌝ }
+{
+    if 65536 < input.len() {
+        return Ran {
+            count: 0,
+            answer: 16,
+            floor: Floor::none(),
+        };
+    }
+    runs::whole(area, input)
+}
+
+pub fn word(out: &mut [u8], at: usize, text: &[u8]) -> usize
+    requires { ⌜ at + length (now text) ≤ length (now out) ⌝ }
+    ensures { λ r. ⌜ Puts (length (now (text .entry))) (now (out .entry)) at (now (text .entry)) (now (out .exit)) r ⌝ }
+{
+    let mut i = 0;
+    while i < text.len() {
+        out[at + i] = text[i];
+        i += 1;
+    }
+    at + i
+}
+
+// The digits of a number: those of its tenth, and the last.
+fn digits(out: &mut [u8], at: usize, n: u64) -> usize
+    requires { ⌜ at + length (decimal n) ≤ length (now out) ⌝ }
+    ensures { λ r. ⌜ Puts (length (decimal n)) (now (out .entry)) at (decimal n) (now (out .exit)) r ⌝ }
+{
+    if n < 10 {
+        out[at] = 48 + n as u8;
+        return at + 1;
+    }
+    let last = digits(out, at, n / 10);
+    out[last] = 48 + (n % 10) as u8;
+    last + 1
+}
+
+pub fn number(out: &mut [u8], at: usize, n: u64) -> usize
+    requires { ⌜ at + 20 ≤ length (now out) ⌝ }
+    ensures { λ r. ⌜ Puts 20 (now (out .entry)) at (decimal n) (now (out .exit)) r ⌝ }
+{
+    digits(out, at, n)
+}
+
+fn entry_if(out: &mut [u8], at: usize, entry: u8, put: bool) -> usize
+    requires { ⌜ at + 21 ≤ length (now out) ⌝ }
+    ensures { λ r. ⌜ Puts 21 (now (out .entry)) at (cond put (space ++ decimal entry) []) (now (out .exit)) r ⌝ }
+{
+    if put {
+        let next = word(out, at, b" ");
+        return number(out, next, entry as u64);
+    }
+    at
+}
+
+fn entries(out: &mut [u8], at: usize, listed: EntrySet) -> usize
+    requires { ⌜ at + 1344 ≤ length (now out) ⌝ }
+    ensures { λ r. ⌜ Puts 1344 (now (out .entry)) at (entriesBelow 64 (listed .0)) (now (out .exit)) r ⌝ }
+{
+    let mut next = at;
+    let mut e: u8 = 0;
+    while e < 64 {
+        next = entry_if(out, next, e, listed.has(EntryNo(e)));
+        e += 1;
+    }
+    next
+}
+
+fn entries_or_none(out: &mut [u8], at: usize, listed: EntrySet) -> usize
+    requires { ⌜ at + 1344 ≤ length (now out) ⌝ }
+    ensures { λ r. ⌜ Puts 1344 (now (out .entry)) at (entriesText (listed .0)) (now (out .exit)) r ⌝ }
+{
+    if listed.0 == 0 {
+        return word(out, at, b" -");
+    }
+    entries(out, at, listed)
+}
+
+fn mark(out: &mut [u8], at: usize, faulty: bool) -> usize
+    requires { ⌜ at + 8 ≤ length (now out) ⌝ }
+    ensures { λ r. ⌜ Puts 8 (now (out .entry)) at (cond faulty faultyWord goodWord) (now (out .exit)) r ⌝ }
+{
+    if faulty {
+        return word(out, at, b" faulty ");
+    }
+    word(out, at, b" good ")
+}
+
+fn desk(
+    out: &mut [u8],
+    at: usize,
+    place: u8,
+    faulty: bool,
+    pass: u32,
+    accept: u32,
+    listed: EntrySet,
+) -> usize
+    requires { ⌜ at + 1419 ≤ length (now out) ⌝ }
+    ensures { λ r. ⌜ Puts 1419 (now (out .entry)) at (deskLine place faulty pass accept (listed .0)) (now (out .exit)) r ⌝ }
+{
+    let a = word(out, at, b"desk ");
+    let b = number(out, a, place as u64);
+    let c = mark(out, b, faulty);
+    let d = number(out, c, pass as u64);
+    let e = word(out, d, b" ");
+    let f = number(out, e, accept as u64);
+    let g = entries_or_none(out, f, listed);
+    word(out, g, b"\n")
+}
+
+// A floor has at most 16 desks.
+fn desk_count(n: u8) -> u8
+    ensures { λ r. ⌜ (r ≡ min n 16) × (r ≤ 16) ⌝ }
+{
+    if n < 16 { n } else { 16 }
+}
+
+fn desks(out: &mut [u8], at: usize, floor: Floor) -> usize
+    requires { ⌜ at + 22704 ≤ length (now out) ⌝ }
+    ensures { λ r. ⌜ Puts 22704 (now (out .entry)) at (desksBelow (min (floor .settings .n) 16) floor) (now (out .exit)) r ⌝ }
+{
+    let count = desk_count(floor.settings.n);
+    let mut next = at;
+    let mut j: u8 = 0;
+    while j < count {
+        let i = j as usize;
+        next = desk(
+            out,
+            next,
+            j,
+            floor.faulty[i],
+            floor.pass[i],
+            floor.accept[i],
+            EntrySet(floor.listed[i]),
+        );
+        j += 1;
+    }
+    next
+}
+
+// A line of two numbers with a word before each.
+fn two_numbers(out: &mut [u8], at: usize, first: &[u8], x: u64, second: &[u8], y: u64) -> usize
+    requires { ⌜ at + (length (now first) + length (now second) + 41) ≤ length (now out) ⌝ }
+    ensures { λ r. ⌜ Puts (length (now (first .entry)) + length (now (second .entry)) + 41) (now (out .entry)) at (twoNumbers (now (first .entry)) x (now (second .entry)) y) (now (out .exit)) r ⌝ }
+{
+    let a = word(out, at, first);
+    let b = number(out, a, x);
+    let c = word(out, b, second);
+    let d = number(out, c, y);
+    word(out, d, b"\n")
+}
+
+// All that `floor` prints.
+pub fn outcome(out: &mut [u8], count: usize, answer: u8, floor: Floor) -> usize
+    requires { ⌜ 22813 ≤ length (now out) ⌝ }
+    ensures { λ r. ⌜ Puts 22813 (now (out .entry)) 0 (outcomeText count answer floor) (now (out .exit)) r ⌝ }
+{
+    let ran = two_numbers(out, 0, b"ran ", count as u64, b" answer ", answer as u64);
+    if floor.settings.n == 0 {
+        return ran;
+    }
+    let clock = two_numbers(
+        out,
+        ran,
+        b"clock ",
+        floor.clock as u64,
+        b" pending ",
+        floor.waiting as u64,
+    );
+    desks(out, clock, floor)
+}
