@@ -256,6 +256,7 @@ fn settings_of_times(u: u8, m: u32, p: u32, a: u32) -> Settings {
     }
 }
 
+// No f fits n 0, so that case breaks 3f+1 too.
 fn desk_limits() {
     with_settings(b"n 0", settings_of_desks(0, 0));
     with_settings(b"n 1", settings_of_desks(1, 0));
@@ -291,6 +292,7 @@ fn clock_and_count() {
     with_count(b"2049 equal notes counted", 2049);
 }
 
+// A note of 2^56 or more has a time-out above every clock + M too.
 fn note_limits() {
     with_note(b"note of 2^56", 72057594037927936);
     with_note(b"note from desk n", note(8, 4, 3, 0));
