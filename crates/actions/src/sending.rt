@@ -78,8 +78,8 @@ pub fn pass_on_by(
     let due = before.due(settings);
     let timeout = head.clock + settings.m;
     let waiting = head.waiting;
-    let count = posting::post_broadcasts(area, waiting, settings.n, desk, due, settings.u, timeout);
-    if Settings::NOTES < count {
+    let total = posting::post_broadcasts(area, waiting, settings.n, desk, due, settings.u, timeout);
+    if Settings::NOTES < total {
         return answered(11, head);
     }
     let after = before.pass_on(due);
@@ -88,7 +88,7 @@ pub fn pass_on_by(
     Head {
         answer: 0,
         clock: head.clock,
-        waiting: count,
+        waiting: total,
     }
 }
 

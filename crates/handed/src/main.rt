@@ -82,7 +82,8 @@ fn small() -> Settings {
     }
 }
 
-// A floor at clock 5 with three notes, desk 1 faulty, and each other thing at the last number that its limit allows.
+// A floor at clock 5 with three notes and one faulty desk, as many as f. Timers, lists, marks, sets and notes go as far
+// as the limits allow.
 fn shaped() -> Floor {
     let mut faulty = [false; 16];
     faulty[1] = true;
@@ -97,8 +98,8 @@ fn shaped() -> Floor {
     let mut sent = [0u64; 16];
     sent[2] = 2;
     let mut received = [0u16; 1024];
-    received[192] = 15;
-    received[193] = 8;
+    received[64 * 3] = 15;
+    received[64 * 3 + 1] = 8;
     Floor {
         settings: small(),
         clock: 5,
@@ -223,13 +224,12 @@ fn with_sent(name: &[u8], i: usize, set: u64)
     with_floor(name, floor);
 }
 
-// The set of an entry of a desk stands at 64 times the desk's number, and the entry's.
-fn with_set(name: &[u8], at: usize, set: u16)
-    requires { ⌜ at < 1024 ⌝ }
+fn with_set(name: &[u8], desk: usize, entry: usize, set: u16)
+    requires { ⌜ (desk < 16) × (entry < 64) ⌝ }
 {
     let mut floor = shaped();
     let mut received = floor.received;
-    received[at] = set;
+    received[64 * desk + entry] = set;
     floor.received = received;
     with_floor(name, floor);
 }
@@ -256,6 +256,7 @@ fn settings_of_times(u: u8, m: u32, p: u32, a: u32) -> Settings {
     }
 }
 
+// No f fits n 0, so that case breaks 3f+1 too.
 fn desk_limits() {
     with_settings(b"n 0", settings_of_desks(0, 0));
     with_settings(b"n 1", settings_of_desks(1, 0));
@@ -291,6 +292,7 @@ fn clock_and_count() {
     with_count(b"2049 equal notes counted", 2049);
 }
 
+// A note of 2^56 or more has a time-out above every clock + M too.
 fn note_limits() {
     with_note(b"note of 2^56", 72057594037927936);
     with_note(b"note from desk n", note(8, 4, 3, 0));
@@ -299,7 +301,7 @@ fn note_limits() {
     with_note(b"time-out below the clock", note(4, 0, 3, 0));
     with_note(b"time-out above clock + M", note(9, 0, 3, 0));
     with_note(b"two equal notes", note(5, 3, 0, 1));
-    with_beyond(b"no notes beyond those counted", 18446744073709551615);
+    with_beyond(b"other numbers beyond the notes", 18446744073709551615);
 }
 
 fn timer_limits() {
@@ -312,8 +314,8 @@ fn timer_limits() {
 fn set_limits() {
     with_listed(b"entry U listed", 0, 4);
     with_sent(b"sent mark of entry U", 2, 4);
-    with_set(b"set with desk n", 192, 16);
-    with_set(b"set of entry U", 194, 1);
+    with_set(b"set with desk n", 3, 0, 16);
+    with_set(b"set of entry U", 3, 2, 1);
     with_faulty(b"two faulty desks", 1, 2);
 }
 
@@ -323,8 +325,8 @@ fn beyond_the_desks() {
     with_accept(b"accept timer 1 of desk n", 4, 1);
     with_listed(b"entry 0 listed at desk n", 4, 1);
     with_sent(b"sent mark of desk n", 4, 1);
-    with_set(b"set of desk n", 256, 1);
-    with_set(b"last set of desk 15", 1023, 1);
+    with_set(b"set of desk n", 4, 0, 1);
+    with_set(b"last set of desk 15", 15, 63, 1);
 }
 
 // ---- the length of the area
