@@ -1,18 +1,23 @@
 # README.md says what each command is for. The gate's last line is its verdict, so its recipe prints nothing of its own.
 .PHONY: run test check compare fmt
 
+# The sequence that the program is run on: make run SEQ=file
 SEQ = examples/k15.seq
-COUNT = 20000
 
+# What rt prints is shown only if it fails, so that the program's lines stand alone.
 run:
-	@rt check floor >&2
-	@tests/run-program target/bin/floor < $(SEQ)
+	@mkdir -p target
+	@rt check floor > target/run.log 2>&1 || { cat target/run.log; exit 1; }
+	@tests/run-program target/bin/floor < '$(SEQ)'
 
 test:
 	@tests/gate
 
 check:
 	@rt check
+
+# How many sequences are made; SEED=.. makes the same ones again.
+COUNT = 20000
 
 compare:
 	@rt check floor dump >&2
