@@ -1,10 +1,7 @@
 -- `dump::main` is safe: the text that it writes lies within its buffer. Assumes nothing.
 use mathlib.Core.Path.{sym}
-use mathlib.Core.Path.{sym}
 use native.Mathlib.Omega.{arith}
 use lib.Seq.{length-take-le}
-use lib.Seq.{length-take-le}
-use borrow.Author.Needs.{needs}
 use borrow.Author.Needs.{needs}
 use Rattle.dump.proofs.main.Statement.{statement}
 use Rattle.dump.proofs.main.Tie as tie

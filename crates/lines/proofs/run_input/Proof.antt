@@ -1,7 +1,5 @@
 -- `lines::run_input` meets its contract. Assumes nothing.
 use borrow.Author.Needs.{needs}
-use borrow.Author.Needs.{needs}
-use Rattle.lines.proofs.InputLaws.{input-too-long, input-whole}
 use Rattle.lines.proofs.InputLaws.{input-too-long, input-whole}
 use Rattle.lines.proofs.run_input.Statement.{statement}
 use Rattle.lines.proofs.run_input.Tie as tie
