@@ -1,5 +1,5 @@
 # README.md says what each command is for. The gate's last line is its verdict, so its recipe prints nothing of its own.
-.PHONY: test check fmt
+.PHONY: test check fmt run
 
 test:
 	@tests/gate
@@ -9,3 +9,12 @@ check:
 
 fmt:
 	@rt fmt
+
+# The sequence that the program is run on: make run SEQ=file
+SEQ = examples/k15.seq
+
+# What rt prints is shown only if it fails, so that the program's lines stand alone.
+run:
+	@mkdir -p target
+	@rt check floor > target/run.log 2>&1 || { cat target/run.log; exit 1; }
+	@tests/run-program target/bin/floor < '$(SEQ)'
