@@ -1,8 +1,8 @@
--- `handed::with_length` is safe. Assumes nothing.
+-- `handed::shape::with_length` is safe. Assumes nothing.
 use lib.Seq.{length-take-le}
 use borrow.Author.Needs.{needs}
-use Rattle.handed.proofs.with_length.Statement.{statement}
-use Rattle.handed.proofs.with_length.Tie as tie
+use Rattle.handed.proofs.shape.with_length.Statement.{statement}
+use Rattle.handed.proofs.shape.with_length.Tie as tie
 
 array-borrow-prefix-area : tie.Need-array-borrow-prefix-area
 array-borrow-prefix-area c = search needs

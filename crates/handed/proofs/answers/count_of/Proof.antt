@@ -1,4 +1,4 @@
--- `handed::count_of` meets its contract. The invariant: the first i numbers are counted. Assumes nothing.
+-- `handed::answers::count_of` meets its contract. The invariant: the first i numbers are counted. Assumes nothing.
 use mathlib.Core.Path.{_≡_, sym}
 use Prim.Native.Nat.{ℕ, _≤_, _-_, _+_}
 use native.Mathlib.Omega.{arith}
@@ -8,8 +8,8 @@ use lib.ListN.{length, getD}
 use Rattle.sets.specs.Counting.{bit, count}
 use Rattle.sets.proofs.CountLaws.{count-zero, count-step}
 use Rattle.handed.specs.Numbers.{isAt}
-use Rattle.handed.proofs.count_of.Statement.{statement}
-use Rattle.handed.proofs.count_of.Tie as tie
+use Rattle.handed.proofs.answers.count_of.Statement.{statement}
+use Rattle.handed.proofs.answers.count_of.Tie as tie
 
 turn : (area : List ℕ) (number i found one : ℕ) → one ≡ bit (eqb (getD area i 0) number) → found ≡ count (isAt area number) i
     → found + one ≡ count (isAt area number) (i + 1)
