@@ -1,3 +1,4 @@
+-- `runs::whole` meets its contract. Assumes nothing.
 use mathlib.Core.Path.{_≡_, sym, _∙_}
 use Prim.Native.Nat.{_≤_, _%_}
 use native.Mathlib.Omega.{arith}
@@ -9,12 +10,6 @@ use Rattle.runs.proofs.CallLaws.{opened-read, records-there, whole-15, 
 use borrow.Author.Needs.{needs}
 use Rattle.runs.proofs.whole.Statement.{statement}
 use Rattle.runs.proofs.whole.Tie as tie
-use Rattle.runs.proofs.whole.Reads as reads
-use Rattle.runs.proofs.whole.Lts as lts
-use Rattle.actions.proofs.open.Reads as open-reads
-use Rattle.floors.proofs.Floor.none.Reads as none-reads
-use Rattle.records.proofs.read.Reads as read-reads
-use Rattle.runs.proofs.run_records.Reads as run-records-reads
 
 -- the places before the records are carried out, from the last on
 abbrev opens : tie.After-struct-known → tie.After-open
@@ -42,69 +37,53 @@ opening c =
     opens c .«open» .ensures
     ∙ opened-read (start (some c) .args .area .now) (take 16 (start (some c) .args .sequence .now)) _ (opens c .before .before .before .read .ensures) (sixteen (some c)) (some c .before .if1 .left)
 
--- src/lib.rt:187:20
 none-requires : tie.Need-none-requires
 none-requires c κs = search needs
 
--- src/lib.rt:184:9
 returns : tie.Need-returns
 returns c = search whole-15
 
--- src/lib.rt:194:20
 none-requires-2 : tie.Need-none-requires-2
 none-requires-2 c κs = search needs
 
--- src/lib.rt:191:9
 returns-2 : tie.Need-returns-2
 returns-2 c = search whole-16
 
--- src/lib.rt:197:33
 slice-aggregate-read : tie.Need-slice-aggregate-read
 slice-aggregate-read c = sym (sixteen (c .before))
 
--- src/lib.rt:197:9
 read-requires : tie.Need-read-requires
 read-requires c κs = search needs
 
--- src/lib.rt:199:9
 open-requires : tie.Need-open-requires
 open-requires c κs = search needs
 
--- src/lib.rt:202:9
 same-length : tie.Need-same-length
 same-length c = search needs
 
--- src/lib.rt:202:9
 returns-3 : tie.Need-returns-3
 returns-3 c = whole-stops (start (some (c .before)) .args .area .now) (start (some (c .before)) .args .sequence .now) (some (c .before) .before .if1 .left) (some (c .before) .if2 .left) (left (c .before)) (opening (c .before)) (c .if3 .taken)
 
--- src/lib.rt:208:17
 sub-limit : tie.Need-sub-limit
 sub-limit c = omega (arith, there (some (c .before)))
 
--- src/lib.rt:209:30
 sub-run-records : tie.Need-sub-run-records
 sub-run-records c = omega (arith, there (some (c .before .before)))
 
--- src/lib.rt:209:30
 part-run-records-start : tie.Need-part-run-records-start
 part-run-records-start c = omega (arith, there (some (c .before .before)))
 
--- src/lib.rt:209:30
 part-run-records-end : tie.Need-part-run-records-end
 part-run-records-end c = search needs
 
--- src/lib.rt:209:5
 run-records-requires : tie.Need-run-records-requires
 run-records-requires c κs =
     let opened = c .before .before .before in
     whole-ready (start (some opened) .args .area .now) (start (some opened) .args .sequence .now) (some opened .before .if1 .left) (some opened .if2 .left) (left opened) (opening opened) (c .before .before .if3 .left)
 
--- src/lib.rt:180:1
 same-length-2 : tie.Need-same-length-2
 same-length-2 c = search needs
 
--- src/lib.rt:180:1
 returns-4 : tie.Need-returns-4
 returns-4 c =
     let ran = c .before .before in
