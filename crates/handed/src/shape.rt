@@ -8,7 +8,6 @@ use crate::given::small;
 use crate::report::line;
 use floors::Floor;
 use floors::Settings;
-ghost use mathlib.Core.Path.{_≡_};
 ghost use Prim.Native.Nat.{_≤_, _<_};
 
 // The answer to a delay of 0, which is carried out on every floor in shape.
