@@ -20,9 +20,10 @@ use Rattle.rules.proofs.Clauses.{effect-announce, effect-passOn, effect-false, 
 use Rattle.rules.proofs.Effects.{sending, announced-again, announced-first, passingOn, passedOn-is}
 use Rattle.rules.proofs.PostLaws.{postAll-one}
 use Rattle.rules.proofs.BroadcastLaws.{broadcasts-same}
-use Rattle.notes.specs.Area.{laid, Holds, Posts}
+use Rattle.notes.specs.Area.{laid, Holds}
 use Rattle.notes.proofs.AreaLaws.{laid-same}
-use Rattle.notes.proofs.PostingLaws.{posts-holds, posts-refused}
+use Rattle.posting.specs.Posting.{Posts}
+use Rattle.posting.proofs.PostingLaws.{posts-holds, posts-refused}
 use Rattle.floors.specs.Bridge.{settingsOf, stateOf, floorOf, deskOf, gathered, readOf, Sized}
 use Rattle.floors.specs.declared.Settings.{Settings}
 use Rattle.floors.specs.declared.Floor.{Floor}

@@ -1,9 +1,8 @@
 // The moves that post notes: announce, pass on, and a faulty desk's false note. Whether there is room is decided
-// before anything is changed: `notes::posting` answers how many notes would wait.
+// before anything is changed: `posting` answers how many notes would wait.
 use crate::head::Head;
 use crate::head::answered;
 use floors::Settings;
-use notes::posting;
 use sets::DeskNo;
 use sets::EntryNo;
 use sets::EntrySet;

@@ -6,7 +6,7 @@ use Prim.Native.Nat.{ℕ, _+_, _-_, _≤_, max}
 use native.Mathlib.Omega.{arith}
 use lib.ListN.{length, take, drop, replicate, length-append, length-drop, length-replicate, take-append-drop}
 use lib.Seq.{take-append-seam, length-take-le, drop-append-add, drop-drop}
-use Rattle.notes.specs.Area.{laid, Holds, Room}
+use Rattle.notes.specs.Area.{laid, Holds}
 
 -- with z places freed, and the places from the m-th on as found
 pub laid-as : (w : ℕ) (area ns : List ℕ) (z m : ℕ) → w - length ns ≡ z → max w (length ns) ≡ m → laid w area ns ≡ ns ++ (replicate z 0 ++ drop m area)
@@ -50,9 +50,6 @@ laid-again w area ns ms h k =
 module _ (ns : List ℕ) (w : ℕ) (area left : List ℕ) (count : ℕ) (H : Holds ns w area left count) where
   pub holds-notes : take count left ≡ ns
   holds-notes = rw (H .counted, H .whole) (take-laid w area ns)
-
-  pub holds-length : Room ns w area → length left ≡ length area
-  holds-length r = rw (H .whole) (length-laid w area ns (r .stand) (r .fit))
 
   -- two calls, the second of which adds, or leaves as many
   pub holds-then : (ms last : List ℕ) (n : ℕ) → w ≤ length ns → length ns ≤ length ms → Holds ms count left last n → Holds ms w area last n

@@ -8,11 +8,10 @@ use lib.ListN.{length, take}
 use lib.Seq.{length-take-le}
 use Rattle.rules.specs.Rules.{at, earliest, isNone, without, takenOut}
 use Rattle.rules.proofs.SearchLaws.{found, isNone-at, isNone-is}
-use Rattle.rules.proofs.TakeOutLaws.{takenOut-none, takenOut-at}
+use Rattle.rules.proofs.TakeOutLaws.{takenOut-at}
 use Rattle.notes.specs.Area.{Holds, placeOf}
 use Rattle.notes.specs.declared.Found.{Found}
 use Rattle.notes.specs.declared.Found.the-variants.{At, Nothing}
-use Rattle.notes.proofs.AreaLaws.{holds-same}
 use Rattle.notes.proofs.FoundLaws.{place-at, place-none}
 
 -- f is what `earliest` answered of the w waiting notes
@@ -27,9 +26,6 @@ module _ (w : ℕ) (area : List ℕ) (i j e : ℕ) (f : Found) (h : w ≤ length
   pub receive-holds : (k : ℕ) → f ≡ At k → (left : List ℕ) (count : ℕ) → Holds (without (take w area) k) w area left count
       → Holds (takenOut (take w area) (earliest i j e (take w area))) w area left count
   receive-holds k q left count H = rw (found-at k q, takenOut-at (take w area) k) H
-
-  pub receive-stays : f ≡ Nothing → Holds (takenOut (take w area) (earliest i j e (take w area))) w area area w
-  receive-stays q = rw (← ans, place-none f q, takenOut-none (take w area)) (holds-same w area h)
 
   -- 6 is given exactly where none was found
   pub receive-found : (k : ℕ) → f ≡ At k → isNone (earliest i j e (take w area)) ≡ false

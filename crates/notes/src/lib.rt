@@ -1,18 +1,14 @@
 // The waiting notes: numbers in the front of a lent area, in order of posting. What only reads is lent the
-// waiting notes themselves, `&area[..waiting]`; what changes the area is lent all of it, with how many wait,
-// and answers how many wait then. Nothing in this file knows how long the area is: its callers see to the
-// room, as `posting` does.
-pub mod posting;
-
+// waiting notes themselves, `&area[..waiting]`; what changes the area is lent all of it. Notes are added by the
+// crate `posting`.
 use sets::DeskNo;
 use sets::EntryNo;
 ghost use mathlib.Core.Path.{_≡_};
-ghost use mathlib.Core.Bool.{false};
-ghost use Prim.Native.Nat.{ℕ, _<_, _≤_};
+ghost use Prim.Native.Nat.{_<_, _≤_};
 ghost use mathlib.Core.List.{[], _∷_, _++_};
-ghost use lib.ListN.{length, getD, take, drop, replicate};
-ghost use Rattle.rules.specs.Rules.{noteOf, timeOut, source, destination, entry, waits, post, postAll, broadcast, earliest, without, everyNote, notPast, noteInShape};
-ghost use Rattle.notes.specs.Area.{Holds, Room, placeOf, newCount, limits};
+ghost use lib.ListN.{length, take, drop, replicate};
+ghost use Rattle.rules.specs.Rules.{noteOf, timeOut, source, destination, entry, waits, earliest, without, everyNote, notPast, noteInShape};
+ghost use Rattle.notes.specs.Area.{Holds, placeOf, limits};
 
 // Where the search ends.
 pub enum Found {
@@ -96,41 +92,6 @@ pub fn earliest(notes: &[u64], source: DeskNo, destination: DeskNo, entry: Entry
     place
 }
 
-// To which desks a note of the broadcast waits already, found by one scan: notes of one broadcast differ
-// in their destinations alone.
-fn reached(notes: &[u64], source: DeskNo, entry: EntryNo, timeout: u32) -> [bool; 256]
-    ensures { λ r. ⌜ ((j : ℕ) → j < 256 → getD r j false ≡ waits (now (notes .entry)) (noteOf timeout (source .0) j (entry .0))) ⌝ }
-{
-    let to_first = pack(timeout, source, DeskNo(0), entry);
-    let mut there = [false; 256];
-    let mut p = 0;
-    while p < notes.len() {
-        let note = notes[p];
-        let to = destination_of(note).0;
-        if note - to as u64 * 256 == to_first {
-            there[to as usize] = true;
-        }
-        p += 1;
-    }
-    there
-}
-
-// How many notes of the broadcast do not wait yet.
-pub fn new_count(notes: &[u64], n: u8, source: DeskNo, entry: EntryNo, timeout: u32) -> usize
-    ensures { λ r. ⌜ r ≡ newCount (now (notes .entry)) (broadcast timeout (source .0) (entry .0) n) ⌝ }
-{
-    let there = reached(notes, source, entry, timeout);
-    let mut count: usize = 0;
-    let mut to: u8 = 0;
-    while to < n {
-        if !there[to as usize] {
-            count += 1;
-        }
-        to += 1;
-    }
-    count
-}
-
 // Whether a note is in shape where there are n desks and so many entries, M is m, and the clock shows `clock`.
 fn in_shape(note: u64, n: u8, entries: u8, m: u32, clock: u32) -> bool
     ensures { λ r. ⌜ r ≡ noteInShape (limits n entries m) clock note ⌝ }
@@ -182,57 +143,14 @@ fn close_gap(part: &mut [u64])
     part[last] = 0;
 }
 
-// Takes out the note at a place: closes the gap, and sets the place freed at the end to 0.
+// Takes out the note at a place: closes the gap, and sets the place freed at the end to 0. Answers how many
+// notes wait then.
 pub fn take_out(area: &mut [u64], waiting: usize, at: usize) -> usize
     requires { ⌜ (at < waiting) × (waiting ≤ length (now area)) ⌝ }
     ensures { λ r. ⌜ Holds (without (take waiting (now (area .entry))) at) waiting (now (area .entry)) (now (area .exit)) r ⌝ }
 {
     close_gap(&mut area[at..waiting]);
     waiting - 1
-}
-
-// Adds the note at the end unless an equal note waits, which the caller knows.
-fn add_unless(area: &mut [u64], waiting: usize, note: u64, known: bool) -> usize
-    requires { ⌜ (known ≡ waits (take waiting (now area)) note) × Room (post (take waiting (now area)) note) waiting (now area) ⌝ }
-    ensures { λ r. ⌜ Holds (post (take waiting (now (area .entry))) note) waiting (now (area .entry)) (now (area .exit)) r ⌝ }
-{
-    if known {
-        return waiting;
-    }
-    area[waiting] = note;
-    waiting + 1
-}
-
-// Adds the note at the end unless an equal note waits.
-pub fn post(area: &mut [u64], waiting: usize, note: u64) -> usize
-    requires { ⌜ Room (post (take waiting (now area)) note) waiting (now area) ⌝ }
-    ensures { λ r. ⌜ Holds (post (take waiting (now (area .entry))) note) waiting (now (area .entry)) (now (area .exit)) r ⌝ }
-{
-    let known = waits(&area[..waiting], note);
-    add_unless(area, waiting, note, known)
-}
-
-// Posts a note to each of the desks 0 to n - 1, in that order.
-pub fn broadcast(
-    area: &mut [u64],
-    waiting: usize,
-    n: u8,
-    source: DeskNo,
-    entry: EntryNo,
-    timeout: u32,
-) -> usize
-    requires { ⌜ Room (postAll (take waiting (now area)) (broadcast timeout (source .0) (entry .0) n)) waiting (now area) ⌝ }
-    ensures { λ r. ⌜ Holds (postAll (take waiting (now (area .entry))) (broadcast timeout (source .0) (entry .0) n)) waiting (now (area .entry)) (now (area .exit)) r ⌝ }
-{
-    let there = reached(&area[..waiting], source, entry, timeout);
-    let mut count = waiting;
-    let mut j: u8 = 0;
-    while j < n {
-        let note = pack(timeout, source, DeskNo(j), entry);
-        count = add_unless(area, count, note, there[j as usize]);
-        j += 1;
-    }
-    count
 }
 
 // Sets the whole area to 0.
