@@ -1,14 +1,9 @@
-// One action on a floor: the shape check, opening, and the step that every run is made of.
-pub mod delay;
-pub mod desks;
-pub mod head;
-pub mod sending;
-pub mod shape;
+// An opening, and one action on a floor.
 pub mod step;
 
-use crate::head::Head;
 use floors::Floor;
 use floors::Settings;
+use moves::head::Head;
 use records::Action;
 ghost use mathlib.Core.Path.{_≡_};
 ghost use Rattle.actions.specs.Actions.{acted, opened};
@@ -70,7 +65,7 @@ pub fn act(floor: Floor, area: &mut [u64], action: Action) -> Acted
     let mut listed = floor.listed;
     let mut sent = floor.sent;
     let mut received = floor.received;
-    let fits = shape::in_shape(
+    let fits = shapes::in_shape(
         settings,
         floor.clock,
         floor.waiting,

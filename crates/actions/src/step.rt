@@ -1,21 +1,22 @@
 // One action on a floor that is taken apart. Every run is made of this step, and so is the call for one action.
-use crate::delay::delay_by;
-use crate::desks::accept_by;
-use crate::desks::crash_of;
-use crate::desks::receive_by;
-use crate::desks::reset_by;
-use crate::head::Head;
-use crate::head::answered;
-use crate::sending::announce_by;
-use crate::sending::false_note_by;
-use crate::sending::pass_on_by;
 use floors::Settings;
+use moves::delay::delay_by;
+use moves::desks::accept_by;
+use moves::desks::crash_of;
+use moves::desks::receive_by;
+use moves::desks::reset_by;
+use moves::head::Head;
+use moves::head::answered;
+use moves::sending::announce_by;
+use moves::sending::false_note_by;
+use moves::sending::pass_on_by;
 use records::Action;
 ghost use mathlib.Core.Path.{_≡_};
 ghost use mathlib.Core.Bool.{true};
 ghost use lib.ListN.{length};
 ghost use Rattle.records.specs.Records.{wellFormed};
-ghost use Rattle.actions.specs.Actions.{Ready, held, left, stepAt, moveOf};
+ghost use Rattle.moves.specs.Moves.{Ready, held, left, stepAt};
+ghost use Rattle.actions.specs.Actions.{moveOf};
 
 // Lending an array as a slice tells its length; nothing is done.
 fn lengths(a: &[bool], b: &[u32], c: &[u32], d: &[u64], e: &[u64], f: &[u16]) {}

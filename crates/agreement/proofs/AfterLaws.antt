@@ -1,8 +1,9 @@
--- After any moves from the fresh floor the settings are those it was opened with, and the clock is the sum of the delays carried out.
+-- The state after moves, one by one and one list after another. After any moves from the fresh floor the settings are those it was opened
+-- with, and the clock is the sum of the delays carried out.
 -- Assumes nothing.
 use mathlib.Core.Path.{_≡_, refl, _∙_}
 use mathlib.Core.Bool.{cond}
-use mathlib.Core.List.{List, [], _∷_}
+use mathlib.Core.List.{List, [], _∷_, _++_}
 use Prim.Native.Nat.{ℕ, _+_}
 use native.Mathlib.Omega.{arith}
 use lib.Dec.{eqb}
@@ -14,6 +15,22 @@ use Rattle.rules.proofs.Effects.{next-kept, ticks, effect-clock, fresh-settings
 use Rattle.agreement.specs.View.{after}
 use Rattle.agreement.specs.Delays.{delays}
 use Rattle.agreement.specs.Demand.{floorAfter}
+
+module _ (s : State) where
+  pub after-none : after next s [] ≡ s
+  unfolding after
+  after-none = refl
+
+  pub after-next : (m : Move) (moves : List Move) → after next s (m ∷ moves) ≡ after next (next s m) moves
+  unfolding after
+  after-next m moves = refl
+
+pub after-both : (s : State) (moves more : List Move) → after next s (moves ++ more) ≡ after next (after next s moves) more
+unfolding after
+after-both s [] more = refl
+after-both s (m ∷ moves) more = after-both (next s m) moves more
+
+-- ---- the settings
 
 settings-stay : (s : State) (moves : List Move) → after next s moves .settings ≡ s .settings
 unfolding after

@@ -5,16 +5,13 @@ use mathlib.Core.List.{List, [], map}
 use Prim.Native.Nat.{ℕ, _+_, _*_, _≤_, _<_}
 use lib.ListN.{length, getD, set, take, length-map, List·getD-map}
 use lib.Seq.{length-take-le, set-getD}
+use Rattle.rules.specs.Rules as rules
 use Rattle.rules.specs.Rules.{Desk, State, noDesk, deskAt}
-use Rattle.rules.proofs.Effects.{Whole}
-use Rattle.floors.specs.Bridge.{tabulate, joined, rowOf, deskOf, stateOf, floorOf, Sized}
+use Rattle.rules.proofs.Effects.{Whole, fresh-settings}
+use Rattle.floors.specs.Bridge.{tabulate, joined, rowOf, floor, deskOf, stateOf, floorOf, noFloor, Sized}
 use Rattle.floors.specs.declared.Settings.{Settings}
 use Rattle.floors.specs.declared.Floor.{Floor}
 use Rattle.floors.proofs.Rows.{length-tabulate, getD-tabulate, tabulate-is, map-tabulate, map-set, row-joined, joined-rows, row-set, length-row, joined-long}
-
--- a floor by its parts
-abbrev pub floor : Settings → ℕ → ℕ → List Bool → List ℕ → List ℕ → List ℕ → List ℕ → List ℕ → Floor
-floor k c w f p a l s r = record { settings = k; clock = c; waiting = w; faulty = f; pass = p; accept = a; listed = l; sent = s; received = r }
 
 pub floor-same : {k : Settings} {c w w′ : ℕ} {f f′ : List Bool} {p p′ a a′ l l′ s s′ r r′ : List ℕ} → w ≡ w′ → f ≡ f′ → p ≡ p′ → a ≡ a′ → l ≡ l′ → s ≡ s′ → r ≡ r′
     → floor k c w f p a l s r ≡ floor k c w′ f′ p′ a′ l′ s′ r′
@@ -133,3 +130,9 @@ sized-whole fl area sized =
       desks = length-tabulate 16 (deskOf fl);
       rows = λ i l. ap (λ (d : Desk). length (d .received)) (desk-at fl sized area i l) ∙ length-row 64 16 (fl .received) i (sized .received) l;
     }
+
+-- ---- no floor
+
+pub no-entries : noFloor .settings .u ≡ 0
+unfolding noFloor
+no-entries = ap (λ (k : rules.Settings). k .u) (fresh-settings _)

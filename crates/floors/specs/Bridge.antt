@@ -2,7 +2,7 @@
 use mathlib.Core.Path.{_≡_}
 use mathlib.Core.Bool.{Bool, false}
 use mathlib.Core.List.{List, [], _∷_, _++_, map}
-use Prim.Native.Nat.{ℕ, zero, suc, _+_, _*_}
+use Prim.Native.Nat.{ℕ, zero, suc, _*_}
 use lib.ListN.{length, getD, take, drop}
 use Rattle.rules.specs.Rules as rules
 use Rattle.floors.specs.declared.Settings.{Settings}
@@ -29,6 +29,10 @@ settingsOf k = record { n = k .n; f = k .f; u = k .u; m = k .m; p = k .p; a = k 
 
 abbrev pub settingsBack : rules.Settings → Settings
 settingsBack k = record { n = k .n; f = k .f; u = k .u; m = k .m; p = k .p; a = k .a }
+
+-- a floor by its parts
+abbrev pub floor : Settings → ℕ → ℕ → List Bool → List ℕ → List ℕ → List ℕ → List ℕ → List ℕ → Floor
+floor k c w f p a l s r = record { settings = k; clock = c; waiting = w; faulty = f; pass = p; accept = a; listed = l; sent = s; received = r }
 
 -- a desk by value, as the rules have it
 abbrev pub readOf : Desk → rules.Desk

@@ -1,7 +1,7 @@
 -- Laws of reading, checking and writing a record: each way out once, and what follows from an answer of 0. A caller needs no definition
 -- unfolded. Assumes nothing.
 use mathlib.Core.Path.{_≡_, refl, sym, ap, _∙_}
-use mathlib.Core.Bool.{Bool, true, false, not, cond}
+use mathlib.Core.Bool.{Bool, true, false, not}
 use mathlib.Core.List.{List, [], _∷_}
 use mathlib.Core.Logic.{_≢_}
 use Prim.Native.Nat.{ℕ, zero, suc, _≤_, _<_, zero-le}
@@ -15,7 +15,7 @@ use Rattle.rules.specs.Rules.{Check, _when_}
 use Rattle.rules.proofs.CheckLaws.{first-fails, first-passes, passed-zero, zero-passed, not-zero}
 use Rattle.records.specs.declared.Action.{Action}
 use Rattle.records.specs.declared.Reading.{Reading}
-use Rattle.records.specs.Records.{littleEndian, actionOf, bytesOf, unused, wellFormed, zeros, refused, formAnswer, checkOf, readOf, Written, written}
+use Rattle.records.specs.Records.{littleEndian, actionOf, bytesOf, unused, wellFormed, zeros, refused, formAnswer, checkOf, readOf, written}
 
 -- a kind that is not in the table: what is known where no arm of a `match` took it
 abbrev NoneBelow : ℕ → ℕ → Type 0
@@ -117,14 +117,6 @@ module _ (bytes : List ℕ) where
   pub read-good : length bytes ≡ 16 → wellFormed (actionOf bytes) ≡ true → record { answer = 0; action = actionOf bytes } ≡ readOf bytes
   read-good e w = sym (read-accepted (check-good e w))
 
-  -- of sixteen bytes
-  pub read-part : length bytes ≡ 16 → readOf bytes ≡ cond (wellFormed (actionOf bytes)) (record { answer = 0; action = actionOf bytes }) (refused 3)
-  read-part e = go (wellFormed (actionOf bytes)) refl
-    where
-      go : (b : Bool) → wellFormed (actionOf bytes) ≡ b → readOf bytes ≡ cond b (record { answer = 0; action = actionOf bytes }) (refused 3)
-      go true w = sym (read-good e w)
-      go false w = sym (read-bad e w)
-
   pub read-zero : readOf bytes .answer ≡ 0 → (length bytes ≡ 16) × (wellFormed (actionOf bytes) ≡ true) × (readOf bytes .action ≡ actionOf bytes)
   read-zero e =
       let z : checkOf bytes ≡ 0 = sym read-answer ∙ e in
@@ -152,10 +144,3 @@ module _ (x : Action) (place : List ℕ) where
 
   pub write-good : length place ≡ 16 → wellFormed x ≡ true → record { answer = 0; place = bytesOf x } ≡ written x place
   write-good e w = sym (put-accepted (form-good _ _ e w))
-
-  pub write-zero : written x place .answer ≡ 0 → (length place ≡ 16) × (wellFormed x ≡ true)
-  write-zero e = go (ℕ-discrete (formAnswer (length place) x) 0)
-    where
-      go : Dec (formAnswer (length place) x ≡ 0) → (length place ≡ 16) × (wellFormed x ≡ true)
-      go (yes z) = form-zero (length place) x z
-      go (no n) = absurd (n (sym (ap (λ (w : Written). w .answer) (put-refused n)) ∙ e))

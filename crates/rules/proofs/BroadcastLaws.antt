@@ -2,8 +2,8 @@
 -- Nobody else unfolds them. Assumes nothing.
 use mathlib.Core.Path.{_≡_, refl, sym, ap, ap₂, subst, _∙_}
 use mathlib.Core.Bool.{Bool, true, false, cond}
-use mathlib.Core.Logic.{_⊎_, ⊎-elim}
-use mathlib.Core.List.{List, [], _∷_, _++_, append-nil}
+use mathlib.Core.Logic.{⊎-elim}
+use mathlib.Core.List.{List, [], _∷_, _++_}
 use Prim.Native.Nat.{ℕ, zero, suc, _+_, _*_, _≤_, _<_}
 use native.Mathlib.Nat.{le-of-suc-le-suc, not-suc-le-zero, eq-or-lt-of-le}
 use native.Mathlib.Numerals.{add-one}
@@ -13,10 +13,10 @@ use borrow.Author.Tests.{eq-eqb, eqb-true}
 use Rattle.sets.specs.Counting.{bit, count}
 use Rattle.sets.proofs.CountLaws.{count-zero, count-step}
 use Rattle.sets.proofs.Tests.{or-left, or-right, or-cases, clash, decided}
-use Rattle.rules.specs.Rules.{noteOf, waits, post, postAll, broadcast, broadcasts}
+use Rattle.rules.specs.Rules.{noteOf, waits, postAll, broadcast, broadcasts}
 use Rattle.rules.proofs.NoteLaws.{note-to}
 use Rattle.rules.proofs.WaitLaws.{waits-none, waits-one, waits-append, Each}
-use Rattle.rules.proofs.PostLaws.{postAll-append, postAll-last, postAll-grows, postAll-longer}
+use Rattle.rules.proofs.PostLaws.{postAll-longer}
 
 -- ---- one entry, to destinations 0 to n - 1
 
@@ -74,20 +74,9 @@ module _ (t i e : ℕ) where
 
   -- posting it
   module _ (ns : List ℕ) where
-    pub post-broadcast-none : postAll ns (broadcast t i e 0) ≡ ns
-    unfolding broadcast postAll
-    post-broadcast-none = refl
-
-    pub post-broadcast-more : (j : ℕ) → postAll ns (broadcast t i e (j + 1)) ≡ post (postAll ns (broadcast t i e j)) (noteOf t i j e)
-    post-broadcast-more j = rw (broadcast-more j) (postAll-last ns (broadcast t i e j) (noteOf t i j e))
-
     pub post-broadcast-longer : (j n : ℕ) → j ≤ n → length (postAll ns (broadcast t i e j)) ≤ length (postAll ns (broadcast t i e n))
     unfolding broadcast
     post-broadcast-longer j n h = postAll-longer ns (broadcast t i e) (λ k. noteOf t i k e ∷ []) (λ k. refl) j n h
-
-    -- no more are added than it has
-    pub post-broadcast-most : (n : ℕ) → length (postAll ns (broadcast t i e n)) ≤ length ns + n
-    post-broadcast-most n = rw (length-broadcast n) at (postAll-grows ns (broadcast t i e n) .1)
 
 -- ---- the entries below u that pass a test, in rising order
 
@@ -99,12 +88,6 @@ module _ (test : ℕ → Bool) (t i n : ℕ) where
   pub broadcasts-more : (e : ℕ) → broadcasts test t i n (e + 1) ≡ broadcasts test t i n e ++ cond (test e) (broadcast t i e n) []
   unfolding broadcasts
   broadcasts-more e = rw add-one
-
-  pub broadcasts-due : (e : ℕ) → test e ≡ true → broadcasts test t i n (e + 1) ≡ broadcasts test t i n e ++ broadcast t i e n
-  broadcasts-due e h = broadcasts-more e ∙ rw h
-
-  pub broadcasts-not : (e : ℕ) → test e ≡ false → broadcasts test t i n (e + 1) ≡ broadcasts test t i n e
-  broadcasts-not e h = broadcasts-more e ∙ rw h (append-nil (broadcasts test t i n e))
 
   pub length-broadcasts : (u : ℕ) → length (broadcasts test t i n u) ≡ count test u * n
   unfolding broadcasts
@@ -169,23 +152,9 @@ module _ (test : ℕ → Bool) (t i n : ℕ) where
 
   -- posting them
   module _ (ns : List ℕ) where
-    pub post-broadcasts-none : postAll ns (broadcasts test t i n 0) ≡ ns
-    unfolding broadcasts postAll
-    post-broadcasts-none = refl
-
-    pub post-broadcasts-due : (e : ℕ) → test e ≡ true
-        → postAll ns (broadcasts test t i n (e + 1)) ≡ postAll (postAll ns (broadcasts test t i n e)) (broadcast t i e n)
-    post-broadcasts-due e h = rw (broadcasts-due e h) (postAll-append ns (broadcasts test t i n e) (broadcast t i e n))
-
-    pub post-broadcasts-not : (e : ℕ) → test e ≡ false → postAll ns (broadcasts test t i n (e + 1)) ≡ postAll ns (broadcasts test t i n e)
-    post-broadcasts-not e h = rw (broadcasts-not e h)
-
     pub post-broadcasts-longer : (e u : ℕ) → e ≤ u → length (postAll ns (broadcasts test t i n e)) ≤ length (postAll ns (broadcasts test t i n u))
     unfolding broadcasts
     post-broadcasts-longer e u h = postAll-longer ns (broadcasts test t i n) (λ k. cond (test k) (broadcast t i k n) []) (λ k. refl) e u h
-
-    pub post-broadcasts-most : (u : ℕ) → length (postAll ns (broadcasts test t i n u)) ≤ length ns + count test u * n
-    post-broadcasts-most u = rw (length-broadcasts u) at (postAll-grows ns (broadcasts test t i n u) .1)
 
 -- tests that agree below u
 pub broadcasts-same : (p q : ℕ → Bool) (t i n u : ℕ) → ((e : ℕ) → e < u → p e ≡ q e) → broadcasts p t i n u ≡ broadcasts q t i n u

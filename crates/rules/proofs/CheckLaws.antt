@@ -1,12 +1,12 @@
 -- Laws of the checks: what the number that comes back tells of each check, and what a refused move leaves. Assumes nothing.
-use mathlib.Core.Path.{_≡_, refl, sym, ap, _∙_}
+use mathlib.Core.Path.{_≡_, refl, sym, _∙_}
 use mathlib.Core.Bool.{Bool, true, false, not}
 use mathlib.Core.List.{List, [], _∷_}
 use Prim.Native.Nat.{ℕ, _<_}
 use lib.Dec.{eqb, ltb}
 use borrow.Author.Tests.{not-false, eq-eqb, ne-eqb, eqb-true, eqb-false, ltb-true}
 use Rattle.sets.proofs.Tests.{cond-true, cond-false, cond-both}
-use Rattle.rules.specs.Rules.{Settings, State, Move, Check, _when_, withinLimits, firstOf, checks, answer, next, effect, opens}
+use Rattle.rules.specs.Rules.{State, Move, Check, _when_, firstOf, checks, answer, next, effect}
 use Rattle.rules.specs.Rules.{delay, announce, passOn, accept, receive, crash, resetTimers, falseNote, unknown}
 
 -- ---- a list of checks
@@ -81,7 +81,7 @@ unfolding next
 next-keeps Q s m before after =
     cond-both Q (eqb (answer s m) 0) (effect s m) s (λ e. after (carried-out s m (eqb-true (answer s m) 0 e))) (λ e. before)
 
--- ---- the numbers of desks and entries, and an opening
+-- ---- the numbers of desks and entries
 
 pub below-passed : (x n : ℕ) → not (ltb x n) ≡ false → x < n
 below-passed x n e = ltb-true x n (not-false (ltb x n) e)
@@ -89,11 +89,3 @@ below-passed x n e = ltb-true x n (not-false (ltb x n) e)
 pub announce-below : (s : State) (i e : ℕ) → Passed (checks s (announce i e)) → (i < s .settings .n) × (e < s .settings .u)
 unfolding checks
 announce-below s i e (hi, (he, _)) = (below-passed i (s .settings .n) hi, below-passed e (s .settings .u) he)
-
-pub opens-within : (k : Settings) → opens k ≡ 0 → withinLimits k ≡ true
-unfolding opens
-opens-within k e = not-false (withinLimits k) (zero-passed (2 when not (withinLimits k) ∷ []) (not-zero 2 refl, tt) e .0)
-
-pub within-opens : (k : Settings) → withinLimits k ≡ true → opens k ≡ 0
-unfolding opens
-within-opens k e = passed-zero (2 when not (withinLimits k) ∷ []) (ap not e, tt)

@@ -2,7 +2,7 @@
 -- lengths stay, and the clock moves by delays alone. Assumes nothing.
 use mathlib.Core.Path.{_≡_, refl, sym, ap, _∙_, subst}
 use mathlib.Core.Bool.{true, false, not, _&&_}
-use mathlib.Core.List.{List}
+use mathlib.Core.List.{List, []}
 use Prim.Native.Nat.{ℕ, zero, suc, _+_, _-_, _≤_, _<_}
 use native.Mathlib.Nat.{le-refl}
 use native.Mathlib.Numerals.{add-one}
@@ -160,6 +160,10 @@ fresh-settings k = refl
 pub fresh-clock : (k : Settings) → fresh k .clock ≡ 0
 unfolding fresh
 fresh-clock k = refl
+
+pub fresh-notes : (k : Settings) → fresh k .notes ≡ []
+unfolding fresh
+fresh-notes k = refl
 
 pub fresh-unsent : (k : Settings) (i e : ℕ) → isSent (deskAt (fresh k) i) e ≡ false
 unfolding fresh freshDesk

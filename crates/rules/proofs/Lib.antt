@@ -1,5 +1,6 @@
 pub mod Starred
 pub mod CheckLaws
+pub mod RunningLaws
 pub mod NoteLaws
 pub mod WaitLaws
 pub mod PostLaws

@@ -89,10 +89,6 @@ pub notPast-le : (time x : ℕ) → notPast time x ≡ true → time ≤ timeOut
 unfolding notPast
 notPast-le time x h = leb-true time (timeOut x) h
 
-pub le-notPast : (time x : ℕ) → time ≤ timeOut x → notPast time x ≡ true
-unfolding notPast
-le-notPast time x h = le-leb time (timeOut x) h
-
 -- ---- under the limits of the settings and of the clock
 
 module _ (k : Settings) (clock : ℕ) (hn : k .n ≤ 16) (hu : k .u ≤ 64) (hm : k .m ≤ 65535) (hc : clock ≤ lastTick) where

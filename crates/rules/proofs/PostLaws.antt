@@ -8,7 +8,7 @@ use native.Mathlib.Nat.{le-refl, le-trans, eq-or-lt-of-le, le-of-suc-le-suc}
 use native.Mathlib.Omega.{arith}
 use lib.Dec.{eqb}
 use lib.ListN.{length, length-append}
-use borrow.Author.Tests.{eq-eqb, eqb-true}
+use borrow.Author.Tests.{eqb-true}
 use Rattle.sets.proofs.Tests.{or-left, or-right, or-cases, cond-both}
 use Rattle.rules.specs.Rules.{waits, post, postAll}
 use Rattle.rules.proofs.WaitLaws.{waits-append, waits-one, Each}
@@ -35,9 +35,6 @@ waits-post ns x y = by (waits ns x) refl
     by : (b : Bool) → waits ns x ≡ b → waits (cond b ns (ns ++ x ∷ [])) y ≡ (waits ns y || eqb x y)
     by true e = old e (eqb x y) refl
     by false e = waits-append ns (x ∷ []) y ∙ rw waits-one
-
-pub post-waits : (ns : List ℕ) (x : ℕ) → waits (post ns x) x ≡ true
-post-waits ns x = waits-post ns x x ∙ or-right (waits ns x) (eqb x x) (eq-eqb x x refl)
 
 pub post-keeps : (ns : List ℕ) (x y : ℕ) → waits ns y ≡ true → waits (post ns x) y ≡ true
 post-keeps ns x y e = waits-post ns x y ∙ or-left (waits ns y) (eqb x y) e
@@ -70,9 +67,6 @@ pub postAll-append : (ns xs ys : List ℕ) → postAll ns (xs ++ ys) ≡ postAll
 unfolding postAll
 postAll-append ns [] ys = refl
 postAll-append ns (x ∷ xs) ys = postAll-append (post ns x) xs ys
-
-pub postAll-last : (ns xs : List ℕ) (x : ℕ) → postAll ns (xs ++ x ∷ []) ≡ post (postAll ns xs) x
-postAll-last ns xs x = postAll-append ns xs (x ∷ []) ∙ postAll-one (postAll ns xs) x
 
 -- what waited waits, each of the list waits, and nothing else is new
 pub waits-postAll : (ns xs : List ℕ) (y : ℕ) → waits (postAll ns xs) y ≡ (waits ns y || waits xs y)

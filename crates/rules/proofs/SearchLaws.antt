@@ -2,7 +2,7 @@
 -- Nobody else unfolds it. Assumes nothing.
 use mathlib.Core.Path.{_≡_, refl, sym, ap, subst, _∙_}
 use mathlib.Core.Bool.{true, false}
-use mathlib.Core.Logic.{_⊎_, ⊎-elim}
+use mathlib.Core.Logic.{⊎-elim}
 use mathlib.Core.List.{List}
 use Prim.Native.Nat.{ℕ, zero, suc, _+_, _≤_, _<_}
 use native.Mathlib.Nat.{eq-or-lt-of-le, le-of-suc-le-suc, not-suc-le-zero, le-refl}
@@ -12,8 +12,8 @@ use lib.Dec.{ltb}
 use lib.ListN.{length, getD}
 use borrow.Author.Tests.{lt-ltb, le-ltb, ltb-true, ltb-false}
 use Rattle.sets.proofs.Tests.{clash, le-or-lt, cond-both}
-use Rattle.rules.specs.Rules.{timeOut, waits, speaksOf, Place, at, none, earlier, earliestOf, earliest, isNone}
-use Rattle.rules.proofs.WaitLaws.{place-of, waits-at, Each, each-at}
+use Rattle.rules.specs.Rules.{timeOut, speaksOf, Place, at, none, earlier, earliestOf, earliest, isNone}
+use Rattle.rules.proofs.WaitLaws.{place-of, Each, each-at}
 
 pub isNone-is : isNone none ≡ true
 unfolding isNone
@@ -138,9 +138,6 @@ module _ (i j e : ℕ) (ns : List ℕ) where
 
   pub found : (k : ℕ) → earliest i j e ns ≡ at k → Earliest (length ns) k
   found k h = subst (Right (length ns)) h earliest-right
-
-  pub found-waits : (k : ℕ) → earliest i j e ns ≡ at k → waits ns (getD ns k 0) ≡ true
-  found-waits k h = waits-at ns k (found k h .within)
 
   pub none-speaks : earliest i j e ns ≡ none → Each (λ x. speaksOf i j e x ≡ false) ns
   none-speaks h x w = here (place-of ns x w)

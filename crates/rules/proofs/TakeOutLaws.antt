@@ -8,7 +8,6 @@ use native.Mathlib.Nat.{le-of-suc-le-suc, not-suc-le-zero}
 use native.Mathlib.Omega.{arith}
 use lib.Dec.{eqb}
 use lib.ListN.{length, getD, take, drop}
-use lib.Seq.{take-nil}
 use borrow.Author.Tests.{eqb-true}
 use Rattle.sets.proofs.Tests.{or-left, or-right, or-cases}
 use Rattle.rules.specs.Rules.{waits, speaksOf, Place, at, none, earliest, without, takenOut}
@@ -29,20 +28,6 @@ without-shorter [] k = omega arith
 without-shorter (x ∷ ns) zero = omega arith
 without-shorter (x ∷ ns) (suc k) = omega (arith, without-shorter ns k)
 
-pub getD-without-before : (ns : List ℕ) (k p : ℕ) → p < k → getD (without ns k) p 0 ≡ getD ns p 0
-unfolding without
-getD-without-before [] k p h = refl
-getD-without-before (x ∷ ns) zero p h = absurd (not-suc-le-zero h)
-getD-without-before (x ∷ ns) (suc k) zero h = refl
-getD-without-before (x ∷ ns) (suc k) (suc p) h = getD-without-before ns k p (le-of-suc-le-suc h)
-
-pub getD-without-after : (ns : List ℕ) (k p : ℕ) → k ≤ p → getD (without ns k) p 0 ≡ getD ns (suc p) 0
-unfolding without
-getD-without-after [] k p h = refl
-getD-without-after (x ∷ ns) zero p h = refl
-getD-without-after (x ∷ ns) (suc k) zero h = absurd (not-suc-le-zero h)
-getD-without-after (x ∷ ns) (suc k) (suc p) h = getD-without-after ns k p (le-of-suc-le-suc h)
-
 -- the notes before the place, and those after it
 pub without-parts : (ns : List ℕ) (k : ℕ) → without ns k ≡ take k ns ++ drop (suc k) ns
 unfolding without
@@ -50,13 +35,6 @@ without-parts [] zero = refl
 without-parts [] (suc k) = refl
 without-parts (x ∷ ns) zero = refl
 without-parts (x ∷ ns) (suc k) = ap (λ (r : List ℕ). x ∷ r) (without-parts ns k)
-
-pub take-without : (ns : List ℕ) (k n : ℕ) → k ≤ n → take n (without ns k) ≡ without (take (suc n) ns) k
-unfolding without
-take-without [] k n h = take-nil n
-take-without (x ∷ ns) zero n h = refl
-take-without (x ∷ ns) (suc k) zero h = absurd (not-suc-le-zero h)
-take-without (x ∷ ns) (suc k) (suc n) h = ap (λ (r : List ℕ). x ∷ r) (take-without ns k n (le-of-suc-le-suc h))
 
 -- what waits after waited before
 pub without-only : (ns : List ℕ) (k y : ℕ) → waits (without ns k) y ≡ true → waits ns y ≡ true
@@ -99,11 +77,6 @@ takenOut-only ns none y w = w
 takenOut-only ns (at k) y w = without-only ns k y w
 
 module _ (i j e : ℕ) (ns : List ℕ) where
-  -- one note fewer, where one was found
-  pub received-length : (k : ℕ) → earliest i j e ns ≡ at k → length (takenOut ns (earliest i j e ns)) + 1 ≡ length ns
-  unfolding takenOut
-  received-length k h = rw h (length-without ns k (found i j e ns k h .within))
-
   -- what waited waits, or speaks of what was looked for
   pub received-keeps : (y : ℕ) → waits ns y ≡ true → (waits (takenOut ns (earliest i j e ns)) y ≡ true) ⊎ (speaksOf i j e y ≡ true)
   unfolding takenOut
@@ -116,8 +89,5 @@ module _ (i j e : ℕ) (ns : List ℕ) where
 -- ---- what holds of every waiting note
 
 module _ (P : ℕ → Type 0) where
-  pub each-without : (ns : List ℕ) (k : ℕ) → Each P ns → Each P (without ns k)
-  each-without ns k h x w = h x (without-only ns k x w)
-
   pub each-takenOut : (ns : List ℕ) (p : Place) → Each P ns → Each P (takenOut ns p)
   each-takenOut ns p h x w = h x (takenOut-only ns p x w)

@@ -2,7 +2,7 @@
 -- Assumes nothing.
 use mathlib.Core.Path.{_≡_, refl, sym, subst, _∙_}
 use mathlib.Core.Bool.{Bool, true, false, _&&_, _||_, or-assoc, or-false, and-assoc, and-true, false≢true}
-use mathlib.Core.Logic.{_⊎_, ⊎-elim}
+use mathlib.Core.Logic.{⊎-elim}
 use mathlib.Core.List.{List, [], _∷_, _++_}
 use Prim.Native.Nat.{ℕ, zero, suc, _+_, _<_, suc-le-suc}
 use native.Mathlib.Nat.{le-of-suc-le-suc, not-suc-le-zero, zero-lt-suc}
@@ -101,12 +101,6 @@ every-each test (y ∷ ns) h =
 module _ (P : ℕ → Type 0) where
   pub each-none : Each P []
   each-none x w = absurd (false≢true (sym (waits-none x) ∙ w))
-
-  pub each-one : (y : ℕ) → P y → Each P (y ∷ [])
-  each-one y p x w = subst P (eqb-true y x (sym (waits-one y x) ∙ w)) p
-
-  pub each-append : (ns ms : List ℕ) → Each P ns → Each P ms → Each P (ns ++ ms)
-  each-append ns ms h k x w = ⊎-elim (h x) (k x) (or-cases (waits ns x) (waits ms x) (sym (waits-append ns ms x) ∙ w))
 
   pub each-at : (ns : List ℕ) → Each P ns → (k : ℕ) → k < length ns → P (getD ns k 0)
   each-at ns h k l = h (getD ns k 0) (waits-at ns k l)

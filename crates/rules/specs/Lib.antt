@@ -1,2 +1,3 @@
 pub mod Rules
+pub mod Running
 pub mod Cases

@@ -334,9 +334,13 @@ answer s m = firstOf (checks s m)
 unfoldable pub next : State → Move → State
 next s m = cond (eqb (answer s m) 0) (effect s m) s
 
--- an opening: "2: opening outside the settings above"
+-- "2: opening outside the settings above"
+abbrev pub outside : Settings → Check
+outside k = 2 when not (withinLimits k)
+
+-- the number that an opening answers
 unfoldable pub opens : Settings → ℕ
-opens k = firstOf (2 when not (withinLimits k) ∷ [])
+opens k = firstOf (outside k ∷ [])
 
 -- ---- 'In shape', clause by clause
 
@@ -384,21 +388,3 @@ inShape s =
     && everyNote (noteInShape (s .settings) (s .clock)) (s .notes)
     && everyBelow (placeInShape s) 16
     && leb (faults s) (s .settings .f)
-
--- ---- 'Running a sequence'
-
--- "how many records it carried out .. and the last number (0 if none was refused)"
-pub record Run : Type 0 where
-  pub count : ℕ
-  pub answer : ℕ
-  pub state : State
-
-abbrev pub oneMore : Run → Run
-oneMore r = record { count = suc (r .count); answer = r .answer; state = r .state }
-
--- "It stops at the end, at that number, or at the first refusal."
-unfoldable pub run : ℕ → State → List Move → Run
-run zero s moves = record { count = 0; answer = 0; state = s }
-run (suc most) s [] = record { count = 0; answer = 0; state = s }
-run (suc most) s (m ∷ moves) =
-    cond (eqb (answer s m) 0) (oneMore (run most (next s m) moves)) (record { count = 0; answer = answer s m; state = s })

@@ -1,32 +1,31 @@
 -- The ways out of a run, of the part not carried out, and of a whole sequence. Assumes nothing.
 use mathlib.Core.Path.{_≡_, refl, sym, ap, _∙_, subst}
-use mathlib.Core.Bool.{Bool, true, false, not, cond, _&&_, _||_}
+use mathlib.Core.Bool.{Bool, true, false, not, _&&_, _||_}
 use mathlib.Core.Logic.{_≢_, ⊎-elim}
 use mathlib.Core.List.{List, [], _∷_}
-use Prim.Native.Nat.{ℕ, _-_, _*_, _/_, _%_, _≤_, _<_, min, zero-le}
+use Prim.Native.Nat.{ℕ, _-_, _*_, _/_, _%_, _≤_, _<_, min}
 use native.Mathlib.Nat.{le-refl}
 use native.Mathlib.Omega.{arith}
 use lib.Dec.{eqb}
-use lib.ListN.{length, take, drop, replicate, length-drop, length-replicate, drop-of-length-le}
+use lib.ListN.{length, take, drop, length-drop, drop-of-length-le}
 use lib.Seq.{take-all, drop-length}
 use borrow.Author.Tests.{eq-eqb, ne-eqb, eqb-true, eqb-false, not-false}
-use Rattle.sets.proofs.Tests.{was-true, was-false, decided, cond-true, or-none}
-use Rattle.rules.specs.Rules.{firstOf, _when_, mostNotes, withinLimits, fresh}
-use Rattle.rules.proofs.CheckLaws.{first-none, first-fails, first-passes, zero-passed, not-zero}
-use Rattle.rules.proofs.Effects.{fresh-whole}
-use Rattle.rules.proofs.Shapes.{Shape}
-use Rattle.rules.proofs.ShapeKept.{fresh-shape}
+use Rattle.sets.proofs.Tests.{decided, or-none}
+use Rattle.rules.specs.Rules.{firstOf, _when_, mostNotes}
+use Rattle.rules.proofs.CheckLaws.{first-none, first-fails, first-passes}
 use Rattle.records.specs.Records.{wellFormed, actionOf, readOf, zeros}
-use Rattle.records.specs.declared.Action.{Action}
 use Rattle.records.specs.declared.Reading.{Reading}
 use Rattle.records.proofs.RecordLaws.{read-good, read-zeros}
-use Rattle.floors.specs.Bridge.{settingsOf, stateOf, floorOf, noFloor, Sized}
+use Rattle.floors.specs.Bridge.{noFloor}
 use Rattle.floors.specs.declared.Floor.{Floor}
-use Rattle.floors.proofs.Bridge.{there, whole-sized}
-use Rattle.actions.specs.Actions.{Outcome, refusal, inShapeAt, callChecks, settingsIn, openingChecks, opened}
-use Rattle.actions.proofs.Calls.{open-3}
+use Rattle.shapes.specs.Shape.{inShapeAt}
+use Rattle.moves.specs.Moves.{Outcome}
+use Rattle.moves.proofs.StepLaws.{Fit}
+use Rattle.actions.specs.Actions.{opened}
+use Rattle.actions.proofs.Calls.{fit-shape, area-fails, area-passes, call-15, call-1, call-passes}
+use Rattle.actions.proofs.Openings.{open-3, opened-fit}
 use Rattle.runs.specs.Runs.{Went, wentFrom, stopped, runChecks, went, restOf, wholeChecks, afterOpening, wholeWent}
-use Rattle.runs.proofs.RunLaws.{Fit, fit-shape, record-good}
+use Rattle.runs.proofs.RunLaws.{record-good}
 
 -- ---- a run
 
@@ -36,20 +35,18 @@ module _ (fl : Floor) (area bytes : List ℕ) (most : ℕ) where
   run-refused number some e = rw (e, some)
 
   pub run-15 : length area ≢ mostNotes → stopped 15 fl area ≡ went fl area bytes most
-  unfolding runChecks callChecks
-  run-15 h = run-refused 15 refl (first-fails 15 (not (eqb (length area) mostNotes)) _ (ap not (ne-eqb (length area) mostNotes h)))
+  unfolding runChecks
+  run-15 h = run-refused 15 refl (call-15 fl area _ h)
 
   module _ (long : length area ≡ mostNotes) (fits : Bool) (s : fits ≡ inShapeAt fl area) where
-    sized : firstOf (runChecks fl area bytes) ≡ firstOf (1 when not (inShapeAt fl area) ∷ 16 when not (eqb (length bytes % 16) 0) ∷ [])
-    unfolding runChecks callChecks
-    sized = first-passes 15 (not (eqb (length area) mostNotes)) _ (ap not (eq-eqb (length area) mostNotes long))
-
     pub run-1 : not fits ≡ true → stopped 1 fl area ≡ went fl area bytes most
-    run-1 y = run-refused 1 refl (sized ∙ first-fails 1 (not (inShapeAt fl area)) _ (ap not (was-false s y)))
+    unfolding runChecks
+    run-1 y = run-refused 1 refl (call-1 fl area _ long fits s y)
 
     module _ (y : not fits ≡ false) where
       shaped : firstOf (runChecks fl area bytes) ≡ firstOf (16 when not (eqb (length bytes % 16) 0) ∷ [])
-      shaped = sized ∙ first-passes 1 (not (inShapeAt fl area)) _ (ap not (was-true s y))
+      unfolding runChecks
+      shaped = call-passes fl area _ long fits s y
 
       pub run-16 : (length bytes % 16 ≡ 0 → ⊥) → stopped 16 fl area ≡ went fl area bytes most
       run-16 h = run-refused 16 refl (shaped ∙ first-fails 16 (not (eqb (length bytes % 16) 0)) [] (ap not (ne-eqb (length bytes % 16) 0 h)))
@@ -103,60 +100,6 @@ module _ (area bytes : List ℕ) (r : Reading) (is : r ≡ readOf bytes) (sixtee
           ap (opened area) (none e) ∙ sym (open-3 area zeros long (wellFormed zeros) refl (not-eight (wellFormed zeros)) noFloor refl)
           ∙ open-3 area (actionOf bytes) long (wellFormed (actionOf bytes)) refl (rw (formed e)) noFloor refl
 
--- a refused opening gives no floor
-pub opened-none : (area : List ℕ) (x : Action) → (opened area x .answer ≡ 0 → ⊥) → opened area x .floor ≡ noFloor
-unfolding opened
-opened-none area x = go (eqb (firstOf (openingChecks area x)) 0) refl
-  where
-    go : (b : Bool) → eqb (firstOf (openingChecks area x)) 0 ≡ b
-        → let o = cond b (record { answer = 0; floor = floorOf (fresh (settingsOf (settingsIn x))); area = replicate (length area) 0 }) (refusal (firstOf (openingChecks area x)) noFloor area) in
-        (o .answer ≡ 0 → ⊥) → o .floor ≡ noFloor
-    go true q z = absurd (z refl)
-    go false q z = refl
-
--- a floor that was opened is in shape
-module _ (area : List ℕ) (x : Action) (e : opened area x .answer ≡ 0) where
-  passed : firstOf (openingChecks area x) ≡ 0
-  unfolding opened
-  passed = go (eqb (firstOf (openingChecks area x)) 0) refl e
-    where
-      go : (b : Bool) → eqb (firstOf (openingChecks area x)) 0 ≡ b
-          → cond b (record { answer = 0; floor = floorOf (fresh (settingsOf (settingsIn x))); area = replicate (length area) 0 }) (refusal (firstOf (openingChecks area x)) noFloor area) .answer ≡ 0
-          → firstOf (openingChecks area x) ≡ 0
-      go true q z = eqb-true (firstOf (openingChecks area x)) 0 q
-      go false q z = z
-
-  within : (not (eqb (length area) mostNotes) ≡ false) × (not (withinLimits (settingsOf (settingsIn x))) ≡ false)
-  unfolding openingChecks
-  within =
-      let clear = zero-passed (openingChecks area x) (not-zero 15 refl, (not-zero 3 refl, (not-zero 2 refl, tt))) passed in
-      (clear .0, clear .1 .1 .0)
-
-  pub limits : withinLimits (settingsOf (settingsIn x)) ≡ true
-  limits = not-false (withinLimits (settingsOf (settingsIn x))) (within .1)
-
-  long-enough : length area ≡ mostNotes
-  long-enough = eqb-true (length area) mostNotes (not-false (eqb (length area) mostNotes) (within .0))
-
-  pub opened-is : opened area x ≡ record { answer = 0; floor = floorOf (fresh (settingsOf (settingsIn x))); area = replicate (length area) 0 }
-  unfolding opened
-  opened-is = cond-true (eqb (firstOf (openingChecks area x)) 0) (record { answer = 0; floor = floorOf (fresh (settingsOf (settingsIn x))); area = replicate (length area) 0 }) (refusal (firstOf (openingChecks area x)) noFloor area) (eq-eqb (firstOf (openingChecks area x)) 0 passed)
-
-  pub opened-state : stateOf (opened area x .floor) (opened area x .area) ≡ fresh (settingsOf (settingsIn x))
-  unfolding fresh
-  opened-state = ap (λ (o : Outcome). stateOf (o .floor) (o .area)) opened-is ∙ there (fresh (settingsOf (settingsIn x))) (fresh-whole (settingsOf (settingsIn x))) (replicate (length area) 0) refl
-
-  pub opened-fit : Fit (opened area x .floor) (opened area x .area)
-  unfolding fresh
-  opened-fit =
-      let k = settingsOf (settingsIn x) in
-      record {
-        shaped = subst Shape (sym opened-state) (fresh-shape k limits);
-        sized = subst (λ (o : Outcome). Sized (o .floor)) (sym opened-is) (whole-sized (fresh k) (fresh-whole k));
-        waiting = subst (λ (o : Outcome). o .floor .waiting ≤ length (o .area)) (sym opened-is) zero-le;
-        exact = ap (λ (o : Outcome). length (o .area)) opened-is ∙ length-replicate (length area) 0 ∙ long-enough;
-      }
-
 -- ---- a whole sequence
 
 module _ (area bytes : List ℕ) where
@@ -166,12 +109,12 @@ module _ (area bytes : List ℕ) where
 
   pub whole-15 : length area ≢ mostNotes → (fl : Floor) → fl ≡ noFloor → stopped 15 fl area ≡ wholeWent area bytes
   unfolding wholeChecks
-  whole-15 h fl q = rw q (whole-refused 15 refl (first-fails 15 (not (eqb (length area) mostNotes)) _ (ap not (ne-eqb (length area) mostNotes h))))
+  whole-15 h fl q = rw q (whole-refused 15 refl (area-fails area _ h))
 
   module _ (long : length area ≡ mostNotes) where
     ragged : firstOf (wholeChecks area bytes) ≡ firstOf (16 when (eqb (length bytes) 0 || not (eqb (length bytes % 16) 0)) ∷ [])
     unfolding wholeChecks
-    ragged = first-passes 15 (not (eqb (length area) mostNotes)) _ (ap not (eq-eqb (length area) mostNotes long))
+    ragged = area-passes area _ long
 
     pub whole-16 : (eqb (length bytes) 0 || not (eqb (length bytes % 16) 0)) ≡ true → (fl : Floor) → fl ≡ noFloor → stopped 16 fl area ≡ wholeWent area bytes
     whole-16 h fl q = rw q (whole-refused 16 refl (ragged ∙ first-fails 16 (eqb (length bytes) 0 || not (eqb (length bytes % 16) 0)) [] h))

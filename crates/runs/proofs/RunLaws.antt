@@ -1,74 +1,29 @@
--- A run record by record: a step keeps the floor in shape and leaves the rules' next state, and what is left of the run after it.
--- Assumes nothing.
-use mathlib.Core.Path.{_≡_, refl, sym, ap, _∙_, subst}
-use mathlib.Core.Bool.{Bool, true, false, cond}
+-- A run record by record: what was read, and what is left of the run after it. Assumes nothing.
+use mathlib.Core.Path.{_≡_, refl, sym, ap, _∙_}
+use mathlib.Core.Bool.{Bool, true}
 use mathlib.Core.Logic.{⊎-elim}
 use mathlib.Core.List.{List}
 use Prim.Native.Nat.{ℕ, suc, _+_, _-_, _*_, _≤_, _<_, zero-le}
 use native.Mathlib.Numerals.{add-one}
 use native.Mathlib.Omega.{arith}
-use lib.Dec.{eqb, leb}
 use lib.ListN.{length, take, drop, length-drop}
 use lib.Seq.{length-take-le}
-use borrow.Author.Tests.{eq-eqb, ne-eqb, eqb-true, leb-true, le-leb}
-use Rattle.sets.proofs.Tests.{and-both, and-left, and-right, cond-true, decided}
-use Rattle.rules.specs.Rules.{State, Move, unknown, answer, effect, next, inShape, mostNotes}
-use Rattle.rules.proofs.CheckLaws.{carried-out, next-carried-out}
-use Rattle.rules.proofs.Effects.{Whole, kept-whole, effect-kept}
-use Rattle.rules.proofs.Shapes.{Shape, shape, in-shape, Limits, shape-limits}
-use Rattle.rules.proofs.ShapeKept.{effect-shape}
-use Rattle.notes.specs.Area.{laid}
-use Rattle.notes.proofs.AreaLaws.{take-laid, length-laid}
-use Rattle.floors.specs.Bridge.{settingsOf, stateOf, floorOf, Sized}
+use borrow.Author.Tests.{eq-eqb, ne-eqb}
+use Rattle.sets.proofs.Tests.{decided}
+use Rattle.rules.specs.Rules.{unknown, answer}
+use Rattle.floors.specs.Bridge.{stateOf}
 use Rattle.floors.specs.declared.Settings.{Settings}
 use Rattle.floors.specs.declared.Floor.{Floor}
-use Rattle.floors.proofs.Bridge.{there, whole-sized, sized-whole}
 use Rattle.records.specs.Records.{wellFormed, actionOf, readOf}
 use Rattle.records.specs.declared.Action.{Action}
 use Rattle.records.specs.declared.Reading.{Reading}
 use Rattle.records.proofs.RecordLaws.{read-zero, read-good}
 use Rattle.actions.proofs.Calls.{malformed}
-use Rattle.actions.specs.declared.head.Head.{Head}
-use Rattle.actions.specs.Actions.{Outcome, stepAt, inShapeAt, moveOf, held, left, Ready, carriedOut, refusal}
+use Rattle.moves.specs.declared.head.Head.{Head}
+use Rattle.moves.specs.Moves.{Outcome, stepAt, held, left, Ready}
+use Rattle.moves.proofs.StepLaws.{Fit, fit-ready, step-answer, step-fit, step-long}
+use Rattle.actions.specs.Actions.{moveOf}
 use Rattle.runs.specs.Runs.{moveAt, Went, wentFrom}
-
--- ---- a floor that a step may be made on
-
-pub record Fit (fl : Floor) (area : List ℕ) : Type 0 where
-  pub shaped : Shape (stateOf fl area)
-  pub sized : Sized fl
-  pub waiting : fl .waiting ≤ length area
-  pub exact : length area ≡ mostNotes
-
-pub fit-start : (fl : Floor) (area : List ℕ) → inShapeAt fl area ≡ true → Sized fl → length area ≡ mostNotes → Fit fl area
-unfolding inShapeAt
-fit-start fl area h sized long =
-    record {
-      shaped = shape (stateOf fl area) (and-right (leb (fl .waiting) mostNotes) (inShape (stateOf fl area)) h);
-      sized = sized;
-      waiting = omega (arith, leb-true (fl .waiting) mostNotes (and-left (leb (fl .waiting) mostNotes) (inShape (stateOf fl area)) h));
-      exact = long;
-    }
-
-pub fit-shape : (fl : Floor) (area : List ℕ) → Fit fl area → inShapeAt fl area ≡ true
-unfolding inShapeAt
-fit-shape fl area fit =
-    and-both (leb (fl .waiting) mostNotes) (inShape (stateOf fl area)) (le-leb (fl .waiting) mostNotes (omega (arith, fit .waiting, fit .exact))) (in-shape (stateOf fl area) (fit .shaped))
-
-pub fit-ready : (fl : Floor) (area : List ℕ) (number : ℕ) → Fit fl area → Ready (fl .settings) (record { answer = number; clock = fl .clock; waiting = fl .waiting }) (length area)
-fit-ready fl area number fit =
-    let lim : Limits (settingsOf (fl .settings)) = shape-limits (stateOf fl area) (fit .shaped) in
-    record {
-      desks = lim .desks .1;
-      faulty = omega (arith, lim .faulty);
-      entries = lim .entries .1;
-      m = lim .m .1;
-      p = lim .p .1;
-      a = lim .a .1;
-      clock = fit .shaped .clock;
-      waiting = fit .waiting;
-      exact = fit .exact;
-    }
 
 -- ---- a record that was read
 
@@ -86,66 +41,6 @@ module _ (bytes : List ℕ) (r : Reading) (is : r ≡ readOf bytes) where
 pub by-record : (o : Outcome) (fl : Floor) (area : List ℕ) (x y : Action) → x ≡ y → o ≡ stepAt fl area (moveOf x) → o ≡ stepAt fl area (moveOf y)
 by-record o fl area x y e s = s ∙ ap (λ (z : Action). stepAt fl area (moveOf z)) e
 
--- ---- a step
-
-module _ (fl : Floor) (area : List ℕ) (m : Move) where
-  abbrev s : State
-  s = stateOf fl area
-
-  pub step-answer : stepAt fl area m .answer ≡ answer s m
-  unfolding stepAt
-  step-answer = go (eqb (answer s m) 0) refl
-    where
-      go : (b : Bool) → eqb (answer s m) 0 ≡ b → cond b (carriedOut fl area (effect s m)) (refusal (answer s m) fl area) .answer ≡ answer s m
-      go true e = sym (eqb-true (answer s m) 0 e)
-      go false e = refl
-
-  module _ (fit : Fit fl area) (e : answer s m ≡ 0) where
-    pub step-carried : stepAt fl area m ≡ carriedOut fl area (effect s m)
-    unfolding stepAt
-    step-carried = cond-true (eqb (answer s m) 0) (carriedOut fl area (effect s m)) (refusal (answer s m) fl area) (eq-eqb (answer s m) 0 e)
-
-    after : Shape (effect s m)
-    after = effect-shape s (fit .shaped) m (carried-out s m e)
-
-    whole : Whole (effect s m)
-    whole = kept-whole s (effect s m) (effect-kept s m) (sized-whole fl area (fit .sized))
-
-    room : length (effect s m .notes) ≤ length area
-    room = omega (arith, after .room, fit .exact)
-
-    -- the state that the step leaves
-    back-there : stateOf (floorOf (effect s m)) (laid (fl .waiting) area (effect s m .notes)) ≡ effect s m
-    back-there = there (effect s m) whole (laid (fl .waiting) area (effect s m .notes)) (take-laid (fl .waiting) area (effect s m .notes))
-
-    long : length (laid (fl .waiting) area (effect s m .notes)) ≡ length area
-    long = length-laid (fl .waiting) area (effect s m .notes) (fit .waiting) room
-
-    carried-fit : Fit (floorOf (effect s m)) (laid (fl .waiting) area (effect s m .notes))
-    carried-fit =
-        record {
-          shaped = subst Shape (sym back-there) after;
-          sized = whole-sized (effect s m) whole;
-          waiting = subst (λ (n : ℕ). length (effect s m .notes) ≤ n) (sym long) room;
-          exact = long ∙ fit .exact;
-        }
-
-    module _ (o : Outcome) (is : o ≡ stepAt fl area m) where
-      pub step-fit : Fit (o .floor) (o .area)
-      step-fit = subst (λ (q : Outcome). Fit (q .floor) (q .area)) (sym (is ∙ step-carried)) carried-fit
-
-      pub step-state : stateOf (o .floor) (o .area) ≡ next s m
-      step-state = ap (λ (q : Outcome). stateOf (q .floor) (q .area)) (is ∙ step-carried) ∙ back-there ∙ sym (next-carried-out s m e)
-
-  -- the area stays as long as it was, refused or not
-  pub step-long : Fit fl area → length (stepAt fl area m .area) ≡ length area
-  unfolding stepAt
-  step-long fit = go (eqb (answer s m) 0) refl
-    where
-      go : (b : Bool) → eqb (answer s m) 0 ≡ b → length (cond b (carriedOut fl area (effect s m)) (refusal (answer s m) fl area) .area) ≡ length area
-      go true e = long fit (eqb-true (answer s m) 0 e)
-      go false e = refl
-
 -- ---- record k of a sequence, lent as the part from 16 × k
 
 pub part-is : (bytes : List ℕ) (k : ℕ) → take (16 * k + 16 - 16 * k) (drop (16 * k) bytes) ≡ take 16 (drop (16 * k) bytes)
@@ -157,7 +52,7 @@ part-long bytes k h = ap length (part-is bytes k) ∙ length-take-le 16 (drop (1
 -- ---- what is left of a run
 
 module _ (fl : Floor) (area bytes : List ℕ) where
-  went-none : (k : ℕ) → wentFrom 0 fl area bytes k ≡ record { count = k; out = record { answer = 0; floor = fl; area = area } }
+  pub went-none : (k : ℕ) → wentFrom 0 fl area bytes k ≡ record { count = k; out = record { answer = 0; floor = fl; area = area } }
   unfolding wentFrom
   went-none k = refl
 

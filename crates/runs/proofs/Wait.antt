@@ -3,35 +3,33 @@ use mathlib.Core.Path.{_≡_, refl, sym, ap, _∙_, subst}
 use mathlib.Core.Bool.{Bool, true, false, not, _||_}
 use mathlib.Core.Logic.{_≢_, ⊎-elim}
 use mathlib.Core.List.{List, [], _∷_, _++_, append-assoc, append-nil}
-use Prim.Native.Nat.{ℕ, _+_, _-_, _/_, _%_, _<_, min}
+use Prim.Native.Nat.{ℕ, _-_, _/_, _%_, _<_, min}
 use native.Mathlib.Omega.{arith}
 use lib.Dec.{eqb}
 use lib.ListN.{length, take, drop}
 use borrow.Author.Tests.{eqb-true, eqb-false}
 use Rattle.sets.proofs.Tests.{decided}
 use Rattle.rules.specs.Rules as rules
-use Rattle.rules.specs.Rules.{State, Move, withinLimits, fresh, next, mostNotes, run}
+use Rattle.rules.specs.Rules.{State, Move, withinLimits, fresh, next, mostNotes}
+use Rattle.rules.specs.Running.{run}
 use Rattle.agreement.specs.View.{after}
 use Rattle.agreement.specs.Demand.{AnnouncedBy, LaterThanWait, OnEveryGoodList}
 use Rattle.agreement.proofs.Demand3.{demand-3}
-use Rattle.agreement.proofs.AfterLaws.{settings-after}
+use Rattle.agreement.proofs.AfterLaws.{after-none, after-next, after-both, settings-after}
 use Rattle.records.specs.Records.{actionOf}
 use Rattle.records.specs.declared.Action.{Action}
 use Rattle.floors.specs.Bridge.{settingsOf, stateOf, noFloor}
 use Rattle.floors.specs.declared.Floor.{Floor}
-use Rattle.actions.specs.Actions.{Outcome, opened, settingsIn, moveOf, acted, stepAt}
-use Rattle.actions.proofs.Calls.{act-step}
+use Rattle.floors.proofs.Bridge.{no-entries}
+use Rattle.moves.specs.Moves.{Outcome, stepAt}
+use Rattle.moves.proofs.StepLaws.{Fit, step-next}
+use Rattle.actions.specs.Actions.{opened, settingsIn, moveOf, acted}
+use Rattle.actions.proofs.Calls.{fit-shape, act-step}
+use Rattle.actions.proofs.Openings.{opened-none, opened-state, opened-fit, limits}
 use Rattle.runs.specs.Runs.{movesFrom, Went, wentFrom, went, stopped, wholeWent}
 use Rattle.runs.specs.Calls.{Call, one, many, leaves, movesOf, leftBy, allMoves}
-use Rattle.runs.proofs.RunLaws.{Fit, fit-shape}
-use Rattle.runs.proofs.CallLaws.{opened-none, opened-state, opened-fit, limits, tail, records-there, whole-15, whole-16, whole-stops, whole-runs}
-use Rattle.runs.proofs.StepLaws.{Same, run-same, went-same, went-ragged, run-state, step-next}
-
--- the state after one list of moves and then another
-after-both : (s : State) (moves more : List Move) → after next s (moves ++ more) ≡ after next (after next s moves) more
-unfolding after
-after-both s [] more = refl
-after-both s (m ∷ moves) more = after-both (next s m) moves more
+use Rattle.runs.proofs.CallLaws.{tail, records-there, whole-15, whole-16, whole-stops, whole-runs}
+use Rattle.runs.proofs.SameRun.{Same, run-same, went-same, went-ragged, run-state}
 
 abbrev stateIn : Outcome → State
 stateIn o = stateOf (o .floor) (o .area)
@@ -48,10 +46,9 @@ module _ (fl : Floor) (area : List ℕ) (fit : Fit fl area) where
   s = stateOf fl area
 
   one-leads : (x : Action) → Leads s (moveOf x ∷ []) (acted fl area x)
-  unfolding after
   one-leads x =
       let (state, left) = step-next fl area (moveOf x) fit in
-      subst (Leads s (moveOf x ∷ [])) (act-step fl area x (fit .exact) true (sym (fit-shape fl area fit)) refl (stepAt fl area (moveOf x)) refl) (record { state = state; fit = left })
+      subst (Leads s (moveOf x ∷ [])) (act-step fl area x (fit .exact) true (sym (fit-shape fl area fit)) refl (stepAt fl area (moveOf x)) refl) (record { state = state ∙ sym (after-next s (moveOf x) [] ∙ after-none (next s (moveOf x))); fit = left })
 
   same-leads : (bytes : List ℕ) (most left : ℕ) (w : Went) → Same 0 w (run most s (movesFrom bytes 0 left)) → Leads s (movesFrom bytes 0 (w .count)) (w .out)
   same-leads bytes most left w same =
@@ -59,10 +56,10 @@ module _ (fl : Floor) (area : List ℕ) (fit : Fit fl area) where
       record { state = same .state ∙ run-state bytes most left 0 s ∙ ap (λ (n : ℕ). after next s (movesFrom bytes 0 n)) counted; fit = same .fit }
 
   many-leads : (bytes : List ℕ) (most : ℕ) → Leads s (movesFrom bytes 0 (went fl area bytes most .count)) (went fl area bytes most .out)
-  unfolding after movesFrom
+  unfolding movesFrom
   many-leads bytes most =
       ⊎-elim (λ e. same-leads bytes most (length bytes / 16) (went fl area bytes most) (went-same fl area bytes most fit (eqb-true (length bytes % 16) 0 e)))
-      (λ e. subst (λ (w : Went). Leads s (movesFrom bytes 0 (w .count)) (w .out)) (went-ragged fl area bytes most fit (eqb-false (length bytes % 16) 0 e)) (record { state = refl; fit = fit }))
+      (λ e. subst (λ (w : Went). Leads s (movesFrom bytes 0 (w .count)) (w .out)) (went-ragged fl area bytes most fit (eqb-false (length bytes % 16) 0 e)) (record { state = sym (after-none s); fit = fit }))
       (decided (eqb (length bytes % 16) 0))
 
   call-leads : (c : Call) → Leads s (movesOf fl area c) (leaves fl area c)
@@ -94,12 +91,7 @@ led k limits moves left leads e T below announced late =
 
 module _ (area : List ℕ) (x : Action) (opens : opened area x .answer ≡ 0) where
   opening-leads : Leads (fresh (settingsOf (settingsIn x))) [] (opened area x)
-  unfolding after
-  opening-leads =
-      record {
-        state = opened-state area x opens;
-        fit = opened-fit area x opens;
-      }
+  opening-leads = record { state = opened-state area x opens ∙ sym (after-none (fresh (settingsOf (settingsIn x)))); fit = opened-fit area x opens }
 
   pub wait-calls : (calls : List Call) (e T : ℕ) → let k = settingsOf (settingsIn x) in let left = stateIn (leftBy (opened area x) calls) in
       e < k .u → AnnouncedBy k e (allMoves (opened area x) calls) T → LaterThanWait k T left → OnEveryGoodList e left
@@ -115,9 +107,8 @@ Waits bytes w =
 
 -- no entry is below U where there is no floor
 no-floor : (bytes : List ℕ) (w : Went) → w .out .floor ≡ noFloor → Waits bytes w
-unfolding noFloor fresh
 no-floor bytes w none e T below announced late =
-    let zero-entries : w .out .floor .settings .u ≡ 0 = ap (λ (fl : Floor). fl .settings .u) none in
+    let zero-entries : w .out .floor .settings .u ≡ 0 = ap (λ (fl : Floor). fl .settings .u) none ∙ no-entries in
     let never : ⊥ = omega arith in
     absurd never
 

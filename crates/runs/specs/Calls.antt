@@ -4,7 +4,8 @@ use Prim.Native.Nat.{ℕ}
 use Rattle.rules.specs.Rules.{Move}
 use Rattle.records.specs.declared.Action.{Action}
 use Rattle.floors.specs.declared.Floor.{Floor}
-use Rattle.actions.specs.Actions.{Outcome, moveOf, acted}
+use Rattle.moves.specs.Moves.{Outcome}
+use Rattle.actions.specs.Actions.{moveOf, acted}
 use Rattle.runs.specs.Runs.{movesFrom, went}
 
 pub data Call : Type 0 where

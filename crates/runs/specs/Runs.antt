@@ -4,11 +4,12 @@ use mathlib.Core.List.{List, [], _∷_, _++_}
 use Prim.Native.Nat.{ℕ, zero, suc, _*_, _/_, _%_, _-_, min}
 use lib.Dec.{eqb}
 use lib.ListN.{length, take, drop}
-use Rattle.rules.specs.Rules.{Move, Check, _when_, firstOf, mostNotes}
+use Rattle.rules.specs.Rules.{Move, Check, _when_, firstOf}
 use Rattle.records.specs.Records.{actionOf, recordAt}
 use Rattle.floors.specs.Bridge.{noFloor}
 use Rattle.floors.specs.declared.Floor.{Floor}
-use Rattle.actions.specs.Actions.{Outcome, moveOf, stepAt, callChecks, opened}
+use Rattle.moves.specs.Moves.{Outcome, stepAt}
+use Rattle.actions.specs.Actions.{moveOf, wrongArea, callChecks, opened}
 
 -- ---- the moves of a sequence
 
@@ -58,7 +59,7 @@ restOf bytes count = drop (16 * count) bytes
 
 -- "16: whole sequence empty, or its length not a multiple of 16", after 15
 unfoldable pub wholeChecks : List ℕ → List ℕ → List Check
-wholeChecks area bytes = 15 when not (eqb (length area) mostNotes) ∷ 16 when (eqb (length bytes) 0 || not (eqb (length bytes % 16) 0)) ∷ []
+wholeChecks area bytes = wrongArea area ∷ 16 when (eqb (length bytes) 0 || not (eqb (length bytes % 16) 0)) ∷ []
 
 -- what follows the opening: "An opening stands first in a whole sequence and nowhere else"; the count leaves it out
 unfoldable pub afterOpening : Outcome → List ℕ → Went

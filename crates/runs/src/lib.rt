@@ -1,19 +1,21 @@
 // Runs of action records: a run on a floor, the part of the sequence that it has not carried out, and a whole
 // sequence, which opens its floor itself.
 use actions::Acted;
-use actions::head::Head;
-use actions::head::answered;
-use actions::shape::in_shape;
 use actions::step::step;
 use floors::Floor;
 use floors::Settings;
+use moves::head::Head;
+use moves::head::answered;
+use shapes::in_shape;
 ghost use mathlib.Core.Path.{_≡_};
 ghost use mathlib.Core.Bool.{true};
 ghost use Prim.Native.Nat.{_≤_, _*_, min};
 ghost use lib.ListN.{length};
 ghost use Rattle.rules.specs.Rules.{mostNotes};
 ghost use Rattle.records.specs.Records.{actionOf};
-ghost use Rattle.actions.specs.Actions.{Ready, held, left, stepAt, moveOf, inShapeAt};
+ghost use Rattle.shapes.specs.Shape.{inShapeAt};
+ghost use Rattle.moves.specs.Moves.{Ready, held, left, stepAt};
+ghost use Rattle.actions.specs.Actions.{moveOf};
 ghost use Rattle.runs.specs.Runs.{wentFrom, went, restOf, wholeWent};
 
 pub struct Ran {

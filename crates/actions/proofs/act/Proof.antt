@@ -1,7 +1,8 @@
 -- `actions::act` meets its contract. Assumes nothing.
 use Rattle.sets.proofs.Tests.{was-true}
 use Rattle.floors.specs.Bridge.{Sized}
-use Rattle.actions.proofs.Calls.{act-15, act-1, act-3, act-step, ready}
+use Rattle.moves.proofs.StepLaws.{fit-ready}
+use Rattle.actions.proofs.Calls.{fit-start, act-15, act-1, act-3, act-step}
 use borrow.Author.Needs.{needs}
 use Rattle.actions.proofs.act.Statement.{statement}
 use Rattle.actions.proofs.act.Tie as tie
@@ -37,8 +38,9 @@ step-requires : tie.Need-step-requires
 step-requires c κs =
     let formed = c .before .before .before .before .before .before .before in
     let looked = formed .before .before .before in
-    let start = inside (looked .before) .before .before in (
-      ready (start .args .floor) _ (was-true (looked .in-shape .ensures) (formed .before .before .if2 .left)) (inside (looked .before) .if1 .left),
+    let first = inside (looked .before) in
+    let fl = first .before .before .args .floor in (
+      fit-ready fl _ 0 (fit-start fl _ (was-true (looked .in-shape .ensures) (formed .before .before .if2 .left)) (sized first) (first .if1 .left)),
       was-true (formed .before .well-formed .ensures) (formed .if3 .left),
     )
 

@@ -1,5 +1,5 @@
 -- `actions::open` meets its contract. Assumes nothing.
-use Rattle.actions.proofs.Calls.{open-15, open-3, open-2, open-0}
+use Rattle.actions.proofs.Openings.{open-15, open-3, open-2, open-0}
 use borrow.Author.Needs.{needs}
 use Rattle.actions.proofs.open.Statement.{statement}
 use Rattle.actions.proofs.open.Tie as tie

@@ -4,9 +4,10 @@ use Prim.Native.Nat.{_-_}
 use native.Mathlib.Omega.{arith}
 use borrow.Author.Needs.{needs}
 use Rattle.floors.specs.Bridge.{Sized}
-use Rattle.actions.specs.Actions.{held}
+use Rattle.moves.specs.Moves.{held}
 use Rattle.runs.specs.Runs.{wentFrom}
-use Rattle.runs.proofs.RunLaws.{Going, fit-start, going-start, going-ready, going-end, going-next, going-stop, going-long, part-is, part-long}
+use Rattle.actions.proofs.Calls.{fit-start}
+use Rattle.runs.proofs.RunLaws.{Going, going-start, going-ready, going-end, going-next, going-stop, going-long, part-is, part-long}
 use Rattle.runs.proofs.run_records.Statement.{statement}
 use Rattle.runs.proofs.run_records.Tie as tie
 

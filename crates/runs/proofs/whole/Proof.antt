@@ -5,7 +5,8 @@ use native.Mathlib.Omega.{arith}
 use lib.ListN.{length, take}
 use lib.Seq.{length-take-le}
 use Rattle.records.specs.Records.{actionOf}
-use Rattle.actions.specs.Actions.{Outcome, opened}
+use Rattle.moves.specs.Moves.{Outcome}
+use Rattle.actions.specs.Actions.{opened}
 use Rattle.runs.proofs.CallLaws.{opened-read, records-there, whole-15, whole-16, whole-stops, whole-ready, whole-runs}
 use borrow.Author.Needs.{needs}
 use Rattle.runs.proofs.whole.Statement.{statement}

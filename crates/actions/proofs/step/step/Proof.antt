@@ -1,7 +1,8 @@
 -- `actions::step::step` meets its contract. Assumes nothing.
 use Rattle.records.proofs.RecordLaws.{above}
 use Rattle.floors.specs.Bridge.{Sized}
-use Rattle.actions.specs.Actions.{held, ofKind}
+use Rattle.moves.specs.Moves.{held}
+use Rattle.actions.specs.Actions.{ofKind}
 use Rattle.actions.proofs.Calls.{kind-move, kind-none, by-move, no-kind}
 use borrow.Author.Needs.{needs}
 use Rattle.actions.proofs.step.step.Statement.{statement}

@@ -1,0 +1,110 @@
+-- The run of the records is the run of the rules: as many steps, the same last number, and the same state; and what those steps are. Assumes nothing.
+use mathlib.Core.Path.{_≡_, refl, sym, _∙_, subst}
+use mathlib.Core.Bool.{true}
+use mathlib.Core.Logic.{⊎-elim}
+use mathlib.Core.List.{List, _∷_}
+use Prim.Native.Nat.{ℕ, zero, suc, _+_, _/_, _%_, min}
+use native.Mathlib.Numerals.{add-one}
+use native.Mathlib.Omega.{arith}
+use lib.Dec.{eqb}
+use lib.ListN.{length}
+use borrow.Author.Tests.{eqb-true, eqb-false}
+use Rattle.sets.proofs.Tests.{decided}
+use Rattle.rules.specs.Rules.{State, Move, answer, next}
+use Rattle.rules.specs.Running.{Run, run}
+use Rattle.rules.proofs.RunningLaws.{run-none, run-end, run-next, run-stop}
+use Rattle.agreement.specs.View.{after}
+use Rattle.agreement.proofs.AfterLaws.{after-none, after-next}
+use Rattle.floors.specs.Bridge.{stateOf}
+use Rattle.floors.specs.declared.Floor.{Floor}
+use Rattle.shapes.specs.Shape.{inShapeAt}
+use Rattle.moves.specs.Moves.{Outcome, stepAt}
+use Rattle.moves.proofs.Steps.{step-refused}
+use Rattle.moves.proofs.StepLaws.{Fit, step-answer, step-fit, step-state}
+use Rattle.actions.proofs.Calls.{fit-shape}
+use Rattle.runs.specs.Runs.{moveAt, movesFrom, Went, wentFrom, went, stopped}
+use Rattle.runs.proofs.CallLaws.{run-0, run-16}
+use Rattle.runs.proofs.RunLaws.{went-none, went-next, went-stop}
+
+-- w, counted from record k on, is the rules' run r, and leaves a floor that a step may be made on
+pub record Same (k : ℕ) (w : Went) (r : Run) : Type 0 where
+  pub count : w .count ≡ k + r .count
+  pub answer : w .out .answer ≡ r .answer
+  pub state : stateOf (w .out .floor) (w .out .area) ≡ r .state
+  pub fit : Fit (w .out .floor) (w .out .area)
+
+-- ---- the two runs
+
+module _ (bytes : List ℕ) where
+  none-same : (fl : Floor) (area : List ℕ) (k : ℕ) → Fit fl area → Same k (record { count = k; out = record { answer = 0; floor = fl; area = area } }) (record { count = 0; answer = 0; state = stateOf fl area })
+  none-same fl area k fit = record { count = omega arith; answer = refl; state = refl; fit = fit }
+
+  -- one record more in front
+  module _ (fl : Floor) (area : List ℕ) (k n most : ℕ) (moves : List Move) (fit : Fit fl area) where
+    abbrev s : State
+    s = stateOf fl area
+
+    abbrev m : Move
+    m = moveAt bytes k
+
+    abbrev o : Outcome
+    o = stepAt fl area m
+
+    more-same : (z : answer s m ≡ 0) → Same (k + 1) (wentFrom n (o .floor) (o .area) bytes (k + 1)) (run most (stateOf (o .floor) (o .area)) moves)
+        → Same k (wentFrom (suc n) fl area bytes k) (run (suc most) s (m ∷ moves))
+    more-same z same =
+        rw (went-next fl area bytes n k o refl (step-answer fl area m ∙ z), run-next most s m moves z, ← step-state fl area m fit z o refl)
+        (record { count = omega (arith, same .count); answer = same .answer; state = same .state; fit = same .fit })
+
+    stop-same : (answer s m ≡ 0 → ⊥) → Same k (wentFrom (suc n) fl area bytes k) (run (suc most) s (m ∷ moves))
+    stop-same z =
+        rw (went-stop fl area bytes n k o refl (λ e. z (sym (step-answer fl area m) ∙ e)), run-stop most s m moves z, ← step-refused fl area m (answer s m) z refl)
+        (record { count = omega arith; answer = refl; state = refl; fit = fit })
+
+  pub run-same : (most left : ℕ) (fl : Floor) (area : List ℕ) (k : ℕ) → Fit fl area → Same k (wentFrom (min most left) fl area bytes k) (run most (stateOf fl area) (movesFrom bytes k left))
+  unfolding movesFrom
+  run-same zero left fl area k fit = let z : min 0 left ≡ 0 = omega arith in rw (z, went-none fl area bytes k, run-none (stateOf fl area)) (none-same fl area k fit)
+  run-same (suc most) zero fl area k fit =
+      let z : min (suc most) 0 ≡ 0 = omega arith in rw (z, went-none fl area bytes k, run-end (suc most) (stateOf fl area)) (none-same fl area k fit)
+  run-same (suc most) (suc left) fl area k fit =
+      let one-less : min (suc most) (suc left) ≡ suc (min most left) = omega arith in
+      let m = moveAt bytes k in
+      rw one-less
+      (⊎-elim
+      (λ e. let z : answer (stateOf fl area) m ≡ 0 = eqb-true (answer (stateOf fl area) m) 0 e in
+      more-same fl area k (min most left) most (movesFrom bytes (suc k) left) fit z
+      (rw add-one (run-same most left (stepAt fl area m .floor) (stepAt fl area m .area) (suc k) (step-fit fl area m fit z (stepAt fl area m) refl))))
+      (λ e. stop-same fl area k (min most left) most (movesFrom bytes (suc k) left) fit (eqb-false (answer (stateOf fl area) m) 0 e))
+      (decided (eqb (answer (stateOf fl area) m) 0)))
+
+-- ---- the run of a public call
+
+module _ (fl : Floor) (area bytes : List ℕ) (most : ℕ) (fit : Fit fl area) where
+  pub went-same : length bytes % 16 ≡ 0 → Same 0 (went fl area bytes most) (run most (stateOf fl area) (movesFrom bytes 0 (length bytes / 16)))
+  went-same even =
+      let shaped : inShapeAt fl area ≡ true = fit-shape fl area fit in
+      subst (λ (w : Went). Same 0 w (run most (stateOf fl area) (movesFrom bytes 0 (length bytes / 16))))
+      (run-0 fl area bytes most (fit .exact) true (sym shaped) refl even (min most (length bytes / 16)) refl _ refl)
+      (run-same bytes most (length bytes / 16) fl area 0 fit)
+
+  pub went-ragged : (length bytes % 16 ≡ 0 → ⊥) → stopped 16 fl area ≡ went fl area bytes most
+  went-ragged odd = run-16 fl area bytes most (fit .exact) true (sym (fit-shape fl area fit)) refl odd
+
+-- ---- the state that the rules' run leaves
+
+-- the steps of a run are the moves that it counts
+pub run-state : (bytes : List ℕ) (most left k : ℕ) (s : State) → let r = run most s (movesFrom bytes k left) in r .state ≡ after next s (movesFrom bytes k (r .count))
+unfolding movesFrom
+run-state bytes zero left k s = rw (run-none s (movesFrom bytes k left)) (sym (after-none s))
+run-state bytes (suc most) zero k s = rw (run-end (suc most) s) (sym (after-none s))
+run-state bytes (suc most) (suc left) k s =
+    ⊎-elim
+    (λ e. rw (run-next most s m moves (eqb-true (answer s m) 0 e)) (run-state bytes most left (suc k) (next s m) ∙ sym (after-next s m _)))
+    (λ e. rw (run-stop most s m moves (eqb-false (answer s m) 0 e)) (sym (after-none s)))
+    (decided (eqb (answer s m) 0))
+  where
+    m : Move
+    m = moveAt bytes k
+
+    moves : List Move
+    moves = movesFrom bytes (suc k) left
