@@ -2,7 +2,7 @@
 .PHONY: run test check compare fmt
 
 # The sequence that the program is run on: make run SEQ=file
-SEQ = examples/k15.seq
+SEQ = examples/first-look/sequence.seq
 
 # What rt prints is shown only if it fails, so that the program's lines stand alone.
 run:

@@ -4,7 +4,7 @@ use crate::answer::{number, Refusal};
 use crate::floor::{Floor, Note};
 use crate::random::Random;
 use crate::record::{self, Action, Settings};
-use crate::{print, run, sequence, text};
+use crate::{print, run, text};
 
 const SMALL: Settings = Settings { desks: 4, faults: 1, entries: 2, message: 3, pass_on: 2, accept: 2 };
 
@@ -177,14 +177,12 @@ fn k13_desk_before_entry_and_the_end_of_the_clock() {
 
 #[test]
 fn k14_late_at_clock_10_and_never_at_11() {
-    let late = include_str!("../../../examples/k14-clock-10.txt");
-    let outcome = sequence::run(&text::sequence(late).unwrap());
+    let outcome = run(include_bytes!("../../../examples/still-missing-at-clock-10/sequence.seq"));
     let floor = outcome.floor.unwrap();
     assert_eq!((outcome.answer, floor.clock, lists(&floor)), (Ok(()), 10, vec![0; 4]));
     assert!(floor.desks.iter().all(|desk| !desk.faulty));
     assert_eq!(answer(&floor, "delay 1"), 13);
-    let listed = include_str!("../../../examples/k14-clock-11.txt");
-    let outcome = sequence::run(&text::sequence(listed).unwrap());
+    let outcome = run(include_bytes!("../../../examples/on-every-list-at-clock-11/sequence.seq"));
     let floor = outcome.floor.unwrap();
     assert_eq!((outcome.answer, floor.clock, lists(&floor)), (Ok(()), 11, vec![1; 4]));
 }
@@ -235,24 +233,7 @@ fn k15_the_program() {
                     desk 1 good 1 1 -\n\
                     desk 2 good 1 1 -\n\
                     desk 3 good 1 0 0\n";
-    assert_eq!(printed(include_str!("../../../examples/k15.txt")), expected);
-}
-
-/// The files are what their texts say, and the program takes them as their page says.
-#[test]
-fn examples() {
-    macro_rules! example {
-        ($name:literal, $first:literal) => {
-            let bytes = include_bytes!(concat!("../../../examples/", $name, ".seq"));
-            let text = include_str!(concat!("../../../examples/", $name, ".txt"));
-            assert_eq!(text::sequence(text).unwrap(), bytes, $name);
-            assert_eq!(print::floor(&run(bytes)).lines().next(), Some($first), $name);
-        };
-    }
-    example!("k13-desk", "ran 0 answer 4");
-    example!("k14-clock-10", "ran 64 answer 0");
-    example!("k14-clock-11", "ran 69 answer 0");
-    example!("k15", "ran 8 answer 0");
+    assert_eq!(print::floor(&run(include_bytes!("../../../examples/first-look/sequence.seq"))), expected);
 }
 
 #[test]

@@ -5,7 +5,6 @@
 //! - `plain dump < SEQUENCE` prints the same and then, for tests of the library: `note TIME-OUT SOURCE DESTINATION ENTRY` for
 //!   each waiting note in the order of the area; `received DESK ENTRY SET` for each set that is not empty; `sent DESK SET` for
 //!   each desk with a sent mark. A set is a decimal number whose bit i stands for the member i.
-//! - `plain write < TEXT` writes the sequence that a text describes; text.rs says how.
 //! - `plain make SEED COUNT DIR` makes sequences to try and says how many of each sort.
 
 mod answer;
@@ -16,10 +15,11 @@ mod print;
 mod random;
 mod record;
 mod sequence;
-mod text;
 
 #[cfg(test)]
 mod cases;
+#[cfg(test)]
+mod text;
 
 use answer::Refusal;
 use sequence::Outcome;
@@ -30,7 +30,7 @@ use std::process::ExitCode;
 /// The longest input in bytes.
 const MOST_INPUT: usize = 65_536;
 
-const USAGE: &str = "usage: plain floor|dump|write < INPUT, or plain make SEED COUNT DIR";
+const USAGE: &str = "usage: plain floor|dump < SEQUENCE, or plain make SEED COUNT DIR";
 
 fn main() -> ExitCode {
     let arguments: Vec<String> = std::env::args().skip(1).collect();
@@ -54,10 +54,6 @@ fn command(arguments: &[&str]) -> Result<Vec<u8>, String> {
     match arguments {
         ["floor"] => Ok(print::floor(&run(&input()?)).into_bytes()),
         ["dump"] => Ok(print::dump(&run(&input()?)).into_bytes()),
-        ["write"] => {
-            let text = io::read_to_string(io::stdin()).map_err(|error| error.to_string())?;
-            text::sequence(&text)
-        }
         ["make", seed, count, folder] => {
             let seed = seed.parse().map_err(|_| USAGE)?;
             let count = count.parse().map_err(|_| USAGE)?;
