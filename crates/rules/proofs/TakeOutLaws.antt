@@ -58,10 +58,6 @@ without-keeps (x ∷ ns) (suc k) y w =
 
 -- ---- the place that a search found
 
-pub takenOut-none : (ns : List ℕ) → takenOut ns none ≡ ns
-unfolding takenOut
-takenOut-none ns = refl
-
 pub takenOut-at : (ns : List ℕ) (k : ℕ) → takenOut ns (at k) ≡ without ns k
 unfolding takenOut
 takenOut-at ns k = refl
