@@ -1,5 +1,5 @@
 # README.md says what each command is for. The gate's last line is its verdict, so its recipe prints nothing of its own.
-.PHONY: run test check compare fmt
+.PHONY: run picture test check compare fmt
 
 # The sequence that the program is run on: make run SEQ=file
 SEQ = examples/first-look/sequence.seq
@@ -9,6 +9,11 @@ run:
 	@mkdir -p target
 	@rt check floor > target/run.log 2>&1 || { cat target/run.log; exit 1; }
 	@tests/run-program target/bin/floor < '$(SEQ)'
+
+# The run of a sequence, drawn: make picture SEQ=file > picture.svg
+picture:
+	@cargo build --release --offline --quiet --manifest-path tests/plain/Cargo.toml --target-dir target/plain
+	@target/plain/release/plain trace < '$(SEQ)' | tools/picture
 
 test:
 	@tests/gate

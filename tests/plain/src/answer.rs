@@ -20,6 +20,28 @@ pub enum Refusal {
     Length = 16,
 }
 
+impl Refusal {
+    /// In a few words.
+    pub fn reason(self) -> &'static str {
+        match self {
+            Refusal::Settings => "settings outside the limits",
+            Refusal::Form => "unknown or misplaced kind, or an unused field that is not 0",
+            Refusal::Desk => "the floor has no such desk",
+            Refusal::Entry => "the floor has no such entry",
+            Refusal::NoSuchNote => "no such note waits",
+            Refusal::AlreadyFaulty => "the desk is faulty already",
+            Refusal::NotFaulty => "the desk is not faulty",
+            Refusal::TooManyFaulty => "no more desks may be faulty",
+            Refusal::FalseTimeOut => "the time-out is past, or too far ahead",
+            Refusal::NoRoom => "no room for the notes",
+            Refusal::PastTimeOut => "past the time-out of a note that waits",
+            Refusal::PastTimer => "a desk has to pass on or accept first",
+            Refusal::PastClock => "past the last tick of the clock",
+            Refusal::Length => "no records, not whole ones, or too many",
+        }
+    }
+}
+
 /// The number that is printed: 0 for what was carried out.
 pub fn number<T>(result: &Result<T, Refusal>) -> u8 {
     match result {

@@ -5,6 +5,7 @@
 //! - `plain dump < SEQUENCE` prints the same and then, for tests of the library: `note TIME-OUT SOURCE DESTINATION ENTRY` for
 //!   each waiting note in the order of the area; `received DESK ENTRY SET` for each set that is not empty; `sent DESK SET` for
 //!   each desk with a sent mark. A set is a decimal number whose bit i stands for the member i.
+//! - `plain trace < SEQUENCE` prints what happens in the run, a line for each thing; trace.rs says how. tools/picture draws it.
 //! - `plain make SEED COUNT DIR` makes sequences to try and says how many of each sort.
 
 mod answer;
@@ -15,6 +16,7 @@ mod print;
 mod random;
 mod record;
 mod sequence;
+mod trace;
 
 #[cfg(test)]
 mod cases;
@@ -30,7 +32,7 @@ use std::process::ExitCode;
 /// The longest input in bytes.
 const MOST_INPUT: usize = 65_536;
 
-const USAGE: &str = "usage: plain floor|dump < SEQUENCE, or plain make SEED COUNT DIR";
+const USAGE: &str = "usage: plain floor|dump|trace < SEQUENCE, or plain make SEED COUNT DIR";
 
 fn main() -> ExitCode {
     let arguments: Vec<String> = std::env::args().skip(1).collect();
@@ -54,6 +56,10 @@ fn command(arguments: &[&str]) -> Result<Vec<u8>, String> {
     match arguments {
         ["floor"] => Ok(print::floor(&run(&input()?)).into_bytes()),
         ["dump"] => Ok(print::dump(&run(&input()?)).into_bytes()),
+        ["trace"] => {
+            let input = input()?;
+            Ok(trace::trace(&input, &run(&input)).into_bytes())
+        }
         ["make", seed, count, folder] => {
             let seed = seed.parse().map_err(|_| USAGE)?;
             let count = count.parse().map_err(|_| USAGE)?;

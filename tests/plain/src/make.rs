@@ -99,7 +99,7 @@ fn name(sort: Sort) -> String {
     }
 }
 
-fn sequence(seed: u64, place: usize) -> Vec<u8> {
+pub fn sequence(seed: u64, place: usize) -> Vec<u8> {
     // One number of the seed's own first, or neighbouring seeds would give the same sequences at neighbouring places.
     let start = Random::new(seed).next().wrapping_add(place as u64);
     make(sort_at(place), Random::new(start))
