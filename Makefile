@@ -1,5 +1,5 @@
 # README.md says what each command is for. The gate's last line is its verdict, so its recipe prints nothing of its own.
-.PHONY: run picture test check compare fmt
+.PHONY: run picture test check compare bench fmt
 
 # The sequence that the program is run on: make run SEQ=file
 SEQ = examples/first-look/sequence.seq
@@ -27,6 +27,12 @@ COUNT = 20000
 compare:
 	@rt check floor dump >&2
 	@tests/compare --count $(COUNT) $(if $(SEED),--seed $(SEED))
+
+# How often each row is measured; the best counts.
+ROUNDS = 25
+
+bench:
+	@tests/bench/run $(ROUNDS)
 
 fmt:
 	@rt fmt

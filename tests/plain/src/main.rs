@@ -1,5 +1,4 @@
-//! The rules of the floor written a second time, in plain Rust and by the words of the rules alone, so that a rule that was
-//! misread on one side shows as a difference. It shares no code with the crates.
+//! The second program:
 //!
 //! - `plain floor < SEQUENCE` prints what the program floor prints.
 //! - `plain dump < SEQUENCE` prints the same and then, for tests of the library: `note TIME-OUT SOURCE DESTINATION ENTRY` for
@@ -8,29 +7,10 @@
 //! - `plain trace < SEQUENCE` prints what happens in the run, a line for each thing; trace.rs says how. tools/picture draws it.
 //! - `plain make SEED COUNT DIR` makes sequences to try and says how many of each sort.
 
-mod answer;
-mod floor;
-mod make;
-mod moves;
-mod print;
-mod random;
-mod record;
-mod sequence;
-mod trace;
-
-#[cfg(test)]
-mod cases;
-#[cfg(test)]
-mod text;
-
-use answer::Refusal;
-use sequence::Outcome;
+use plain::{make, print, run, trace, MOST_INPUT};
 use std::io::{self, Read, Write};
 use std::path::Path;
 use std::process::ExitCode;
-
-/// The longest input in bytes.
-const MOST_INPUT: usize = 65_536;
 
 const USAGE: &str = "usage: plain floor|dump|trace < SEQUENCE, or plain make SEED COUNT DIR";
 
@@ -76,11 +56,4 @@ fn input() -> Result<Vec<u8>, String> {
     let most = MOST_INPUT as u64 + 1;
     io::stdin().lock().take(most).read_to_end(&mut bytes).map_err(|error| error.to_string())?;
     Ok(bytes)
-}
-
-fn run(input: &[u8]) -> Outcome {
-    if input.len() > MOST_INPUT {
-        return Outcome::unopened(Refusal::Length);
-    }
-    sequence::run(input)
 }
