@@ -11,9 +11,12 @@ use lib.Seq.{length-take-le}
 use borrow.Author.Tests.{le-leb, lt-leb, leb-true, ltb-true, ltb-false}
 use Rattle.sets.specs.Sets.{member, size}
 use Rattle.sets.proofs.CountLaws.{count-le}
+use Rattle.sets.proofs.MemberLaws.{member-zero}
 use Rattle.sets.proofs.Tests.{or-none, cond-true, cond-false}
 use Rattle.rules.specs.Rules.{waits, post, postAll, broadcast, broadcasts}
-use Rattle.rules.proofs.PostLaws.{postAll-one}
+use Rattle.rules.proofs.PostLaws.{postAll-none, postAll-one}
+use Rattle.rules.proofs.BroadcastLaws.{broadcasts-never}
+use Rattle.notes.proofs.AreaLaws.{holds-same}
 use Rattle.notes.specs.Area.{Holds}
 use Rattle.posting.specs.Posting.{Room, Posts, newCount}
 use Rattle.posting.proofs.NewCountLaws.{new-broadcast-le, new-in-set-le, count-broadcast, count-broadcasts, after-post}
@@ -54,6 +57,13 @@ module _ (xs : List ℕ) (w : ℕ) (area : List ℕ) where
         counted = e;
         whole = sym (cond-false (leb (length (postAll (take w area) xs)) (length area)) _ _ (lt-leb _ _ (rw e at h)));
       }
+
+-- ---- no entry: nothing is posted
+pub none-posts : (w : ℕ) (area : List ℕ) → w ≤ length area → (es t i n u : ℕ) → es ≡ 0 → Posts (broadcasts (member es) t i n u) w area area w
+none-posts w area h es t i n u z =
+    rw (z, broadcasts-never (member 0) t i n u (λ e _. member-zero e))
+    (holds-posts [] w area area w (rw (postAll-none (take w area)) (record { stand = h; fit = omega (arith, length-take-le w area h) }))
+    (rw (postAll-none (take w area)) (holds-same w area h)))
 
 -- ---- one note: b is what `waits` answered, and the code tests b, and whether a place is free
 module _ (w : ℕ) (area : List ℕ) (x : ℕ) (b : Bool) (h : w ≤ length area) (ans : b ≡ waits (take w area) x) where

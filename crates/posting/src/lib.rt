@@ -172,6 +172,10 @@ pub fn post_broadcasts(
     requires { ⌜ (waiting ≤ length (now area)) × (u ≤ 64) ⌝ }
     ensures { λ r. ⌜ Posts (broadcasts (member (entries .0)) timeout (source .0) n u) waiting (now (area .entry)) (now (area .exit)) r ⌝ }
 {
+    // Most tries to pass on find no entry due.
+    if entries.0 == 0 {
+        return waiting;
+    }
     let room = area.len() - waiting;
     let total = new_of_all_if_tight(&area[..waiting], room, n, source, entries, u, timeout);
     if room < total {

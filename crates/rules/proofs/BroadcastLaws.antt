@@ -156,6 +156,12 @@ module _ (test : ℕ → Bool) (t i n : ℕ) where
     unfolding broadcasts
     post-broadcasts-longer e u h = postAll-longer ns (broadcasts test t i n) (λ k. cond (test k) (broadcast t i k n) []) (λ k. refl) e u h
 
+-- no entry passes
+pub broadcasts-never : (test : ℕ → Bool) (t i n u : ℕ) → ((e : ℕ) → e < u → test e ≡ false) → broadcasts test t i n u ≡ []
+unfolding broadcasts
+broadcasts-never test t i n zero h = refl
+broadcasts-never test t i n (suc e) h = rw (h e (omega arith), broadcasts-never test t i n e (λ d l. h d (omega arith)))
+
 -- tests that agree below u
 pub broadcasts-same : (p q : ℕ → Bool) (t i n u : ℕ) → ((e : ℕ) → e < u → p e ≡ q e) → broadcasts p t i n u ≡ broadcasts q t i n u
 unfolding broadcasts
