@@ -1,5 +1,5 @@
 # README.md says what each command is for. The gate's last line is its verdict, so its recipe prints nothing of its own.
-.PHONY: run test check compare fmt
+.PHONY: run test check compare bench fmt
 
 # The sequence that the program is run on: make run SEQ=file
 SEQ = examples/k15.seq
@@ -22,6 +22,12 @@ COUNT = 20000
 compare:
 	@rt check floor dump >&2
 	@tests/compare --count $(COUNT) $(if $(SEED),--seed $(SEED))
+
+# How often each row is measured; the best counts.
+ROUNDS = 50
+
+bench:
+	@tests/bench/run $(ROUNDS)
 
 fmt:
 	@rt fmt
