@@ -29,7 +29,7 @@ compare:
 	@tests/compare --count $(COUNT) $(if $(SEED),--seed $(SEED))
 
 # How often each row is measured; the best counts.
-ROUNDS = 25
+ROUNDS = 50
 
 bench:
 	@tests/bench/run $(ROUNDS)
