@@ -1,13 +1,16 @@
 -- A loop over the entries puts into a set those that pass a test. Assumes nothing.
 use mathlib.Core.Path.{_≡_, sym, ap, _∙_}
 use mathlib.Core.Bool.{Bool, true, false, not, cond, _&&_}
+use mathlib.Core.Logic.{⊎-elim}
 use mathlib.Core.List.{List}
-use Prim.Native.Nat.{ℕ, _+_, _-_, _<_}
+use Prim.Native.Nat.{ℕ, _+_, _-_, _≤_, _<_}
 use lib.Dec.{leb, ltb}
 use lib.ListN.{getD}
+use lib.Bits.{bitOr}
 use Rattle.sets.specs.Sets.{member, insert, insertBelow, size, insertAll}
-use Rattle.sets.proofs.MemberLaws.{insertBelow-low}
-use Rattle.sets.proofs.InsertAllLaws.{insertAll-take, insertAll-skip, insertAll-same}
+use Rattle.sets.proofs.MemberLaws.{insertBelow-low, member-zero, member-less, ext-all}
+use Rattle.sets.proofs.Tests.{le-or-lt}
+use Rattle.sets.proofs.InsertAllLaws.{insertAll-take, insertAll-skip, insertAll-high, insertAll-member, insertAll-same}
 use Rattle.rules.specs.Rules.{due, ripe}
 use Rattle.rules.proofs.Effects.{due-is, ripe-is}
 use Rattle.floors.specs.Bridge.{settingsOf, readOf}
@@ -20,10 +23,30 @@ gather : (test : ℕ → Bool) (first e set set′ : ℕ) (b : Bool) → e < 64 
 gather test first e set set′ true l inv t s = s ∙ insertBelow-low 64 set e l ∙ ap (λ (x : ℕ). insert x e) inv ∙ sym (insertAll-take test first e (sym t))
 gather test first e set set′ false l inv t s = s ∙ inv ∙ sym (insertAll-skip test first e (sym t))
 
-pub gather-due : (k : Settings) (d : Desk) (first e set set′ : ℕ) (b : Bool) → e < 64 → set ≡ insertAll (due (settingsOf k) (readOf d)) first e
-    → b ≡ (ltb (k .f) (size 16 (getD (d .received) e 0)) && not (member (d .sent .0) e)) → set′ ≡ cond b (insertBelow 64 set e) set
-    → set′ ≡ insertAll (due (settingsOf k) (readOf d)) first (e + 1)
-gather-due k d first e set set′ b l inv t s = gather (due (settingsOf k) (readOf d)) first e set set′ b l inv (t ∙ sym (due-is (settingsOf k) (readOf d) e)) s
+-- more sources than so many
+unfoldable pub moreThan : ℕ → List ℕ → ℕ → Bool
+moreThan few received e = ltb few (size 16 (getD received e 0))
+
+pub gather-heard : (few : ℕ) (received : List ℕ) (first e set set′ : ℕ) (b : Bool) → e < 64 → set ≡ insertAll (moreThan few received) first e
+    → b ≡ ltb few (size 16 (getD received e 0)) → set′ ≡ cond b (insertBelow 64 set e) set → set′ ≡ insertAll (moreThan few received) first (e + 1)
+unfolding moreThan
+gather-heard few received first e set set′ b l inv t s = gather (moreThan few received) first e set set′ b l inv t s
+
+-- the entries that were heard enough, less those that were sent, are those that are due
+pub due-end : (k : Settings) (d : Desk) (e set left : ℕ) → set ≡ insertAll (moreThan (k .f) (d .received)) 0 e → e ≡ k .u → left ≡ bitOr set (d .sent .0) - d .sent .0
+    → left ≡ insertAll (due (settingsOf k) (readOf d)) 0 (k .u)
+unfolding moreThan
+due-end k d e set left s q r =
+    ext-all left (insertAll (due (settingsOf k) (readOf d)) 0 (k .u)) (λ i. rw r (member-less i set (d .sent .0)) ∙ ⊎-elim (past i) (here i) (le-or-lt (k .u) i))
+  where
+    past : (i : ℕ) → k .u ≤ i → (member set i && not (member (d .sent .0) i)) ≡ member (insertAll (due (settingsOf k) (readOf d)) 0 (k .u)) i
+    past i h =
+        rw (s, q, insertAll-high (moreThan (k .f) (d .received)) 0 (k .u) i h, insertAll-high (due (settingsOf k) (readOf d)) 0 (k .u) i h, member-zero i)
+
+    here : (i : ℕ) → i < k .u → (member set i && not (member (d .sent .0) i)) ≡ member (insertAll (due (settingsOf k) (readOf d)) 0 (k .u)) i
+    here i h =
+        rw (s, q, insertAll-member (moreThan (k .f) (d .received)) (k .u) i h, insertAll-member (due (settingsOf k) (readOf d)) (k .u) i h)
+        (sym (due-is (settingsOf k) (readOf d) i))
 
 -- at least so many sources
 unfoldable pub atLeast : ℕ → List ℕ → ℕ → Bool

@@ -6,11 +6,11 @@ use sets::DeskSet;
 use sets::EntryNo;
 use sets::EntrySet;
 ghost use mathlib.Core.Path.{_≡_};
-ghost use Prim.Native.Nat.{_+_, _≤_, _<_};
+ghost use Prim.Native.Nat.{_+_, _-_, _≤_, _<_};
 ghost use lib.ListN.{length};
-ghost use mathlib.Core.Bool.{not, cond, _&&_};
+ghost use mathlib.Core.Bool.{cond};
 ghost use lib.Dec.{leb, ltb};
-ghost use Rattle.sets.specs.Sets.{member, size, insertBelow, insertAll};
+ghost use Rattle.sets.specs.Sets.{size, insertBelow, insertAll};
 ghost use lib.Bits.{bitOr};
 ghost use Rattle.rules.specs.Rules.{withinLimits, fresh, due, timed, withSent, accepting};
 ghost use Rattle.floors.specs.Bridge.{settingsOf, readOf, gathered, rowOf, floorOf, noFloor};
@@ -100,11 +100,19 @@ impl Floor {
     }
 }
 
-// Whether an entry from these sources is to be passed on by a desk with these sent marks.
-fn is_due(f: u8, sources: DeskSet, sent: EntrySet, entry: EntryNo) -> bool
-    ensures { λ r. ⌜ r ≡ (ltb f (size 16 (sources .0)) && not (member (sent .0) (entry .0))) ⌝ }
+// Whether an entry from these sources is to be passed on, if it was not sent before.
+fn is_heard(f: u8, sources: DeskSet) -> bool
+    ensures { λ r. ⌜ r ≡ ltb f (size 16 (sources .0)) ⌝ }
 {
-    (f < sources.size()) & !sent.has(entry)
+    f < sources.size()
+}
+
+// The entries of a set that have no sent mark. The marks are put in first, so that nothing is borrowed when they are
+// taken away; the compiler makes one `and` of both.
+fn unsent(heard: EntrySet, sent: EntrySet) -> EntrySet
+    ensures { λ r. ⌜ r .0 ≡ bitOr (heard .0) (sent .0) - sent .0 ⌝ }
+{
+    EntrySet((heard.0 | sent.0) - sent.0)
 }
 
 // Whether an entry from these sources is to be listed.
@@ -127,16 +135,16 @@ impl Desk {
         ensures { λ r. ⌜ r .0 ≡ insertAll (due (settingsOf settings) (readOf self)) 0 (settings .u) ⌝ }
     {
         let u = settings.u;
-        let mut due = EntrySet::empty();
+        let mut heard = EntrySet::empty();
         let mut e: u8 = 0;
         while e < u {
             let at = e as usize;
             let sources = DeskSet(self.received[at]);
-            let put = is_due(settings.f, sources, self.sent, EntryNo(e));
-            due = with_if(due, EntryNo(e), put);
+            let put = is_heard(settings.f, sources);
+            heard = with_if(heard, EntryNo(e), put);
             e += 1;
         }
-        due
+        unsent(heard, self.sent)
     }
 
     // Pass on, where these are the entries that are due.

@@ -1,15 +1,15 @@
 -- Laws of `member`, `insert` and `allBelow`, for every width. Nobody else unfolds them. Assumes nothing.
 use mathlib.Core.Path.{_≡_, refl, sym, ap, _∙_}
 use mathlib.Core.Logic.{_≢_, _⊎_, inl, inr}
-use mathlib.Core.Bool.{Bool, true, false, cond, _||_, or-true, or-false, true≢false}
-use Prim.Native.Nat.{ℕ, zero, suc, _+_, _/_, _%_, _^_, _≤_, _<_}
+use mathlib.Core.Bool.{Bool, true, false, not, cond, _&&_, _||_, or-true, or-false, true≢false}
+use Prim.Native.Nat.{ℕ, zero, suc, _+_, _-_, _/_, _%_, _^_, _≤_, _<_}
 use native.Mathlib.Nat.{lt-of-lt-of-le, div-eq-of-lt, div-one, zero-div, div-div-eq-div-mul, pow-succ', mul-mod-right, mul-div-cancel-left, mod-lt, zero-lt-suc, not-suc-le-zero, le-of-suc-le-suc, suc-le-suc-iff}
 use native.Mathlib.Decide.{decLt, ℕ-discrete}
 use native.Mathlib.Omega.{arith}
 use lib.Dec.{eqb, eqb·zero-suc, eqb·suc-zero, eqb·suc-suc}
 use lib.Arith.{lt-one}
 use lib.Pow.{pow-mono, pow-lt}
-use lib.Bits.{bitOr, or-shr, or-mod, or-lt}
+use lib.Bits.{bitOr, or-step, or-shr, or-mod, or-lt, or-add-and, and-le-l}
 use borrow.Author.Tests.{eq-eqb, ne-eqb, lt-ltb, le-ltb, ltb-true}
 use Rattle.sets.specs.Counting.{bit}
 use Rattle.sets.specs.Sets.{member, insert, insertBelow, allBelow}
@@ -148,3 +148,28 @@ insertBelow-low k x i l = ap (λ (b : Bool). cond b (insert x i) x) (lt-ltb i k 
 pub insertBelow-high : (k x i : ℕ) → k ≤ i → insertBelow k x i ≡ x
 unfolding insertBelow
 insertBelow-high k x i l = ap (λ (b : Bool). cond b (insert x i) x) (le-ltb i k l)
+
+-- ---- one set taken from another: with the second put in there is nothing to borrow, so the digits are taken away one by one
+pub or-most : (x y : ℕ) → y ≤ bitOr x y
+or-most x y = omega (arith, or-add-and x y, and-le-l x y)
+
+less-half : (x y : ℕ) → (bitOr x y - y) / 2 ≡ bitOr (x / 2) (y / 2) - y / 2
+less-half x y = omega (arith, or-step x y, or-most (x / 2) (y / 2))
+
+less-low : (x y : ℕ) (a b : Bool) → bit a ≡ x % 2 → bit b ≡ y % 2 → (bitOr x y - y) % 2 ≡ bit (a && not b)
+less-low x y true true p q = omega (arith, or-step x y, or-most (x / 2) (y / 2))
+less-low x y true false p q = omega (arith, or-step x y, or-most (x / 2) (y / 2))
+less-low x y false true p q = omega (arith, or-step x y, or-most (x / 2) (y / 2))
+less-low x y false false p q = omega (arith, or-step x y, or-most (x / 2) (y / 2))
+
+bit-same : (a b : Bool) → bit a ≡ bit b → a ≡ b
+bit-same true true e = refl
+bit-same true false e = absurd (omega arith)
+bit-same false true e = absurd (omega arith)
+bit-same false false e = refl
+
+pub member-less : (i x y : ℕ) → member (bitOr x y - y) i ≡ (member x i && not (member y i))
+member-less zero x y =
+    bit-same (member (bitOr x y - y) 0) (member x 0 && not (member y 0)) (low-bit (bitOr x y - y) ∙ less-low x y (member x 0) (member y 0) (low-bit x) (low-bit y))
+member-less (suc i) x y =
+    member-suc (bitOr x y - y) i ∙ ap (λ (n : ℕ). member n i) (less-half x y) ∙ member-less i (x / 2) (y / 2) ∙ rw (← member-suc x i, ← member-suc y i)
