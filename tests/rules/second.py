@@ -32,12 +32,29 @@ class Floor:
         self.received = [[set() for _ in range(64)] for _ in range(16)]
 
     def act(self, name, *fields):
-        """Carries the action out and answers 0, or answers the refusal's number and changes nothing."""
+        """Carries the action out and answers 0, or answers the refusal's number and changes nothing. Tells besides whether a
+        source was added; only receive does that."""
         try:
-            getattr(self, name)(*fields)
+            added = getattr(self, name)(*fields)
         except Refused as refusal:
-            return refusal.args[0]
-        return 0
+            return refusal.args[0], False
+        return 0, bool(added)
+
+    def run(self, most, moves):
+        """Carries the moves out one after another, at most so many and up to the first refusal. Gives how many it carried out,
+        how many sources all sets were given since it began, and the last number."""
+        count = number = 0
+        before = self.sources()
+        for move in moves[:most]:
+            number, _ = self.act(*move)
+            if number != 0:
+                break
+            count += 1
+        return count, self.sources() - before, number
+
+    def sources(self):
+        """How many sources all sets have."""
+        return sum(len(sources) for sets in self.received for sources in sets)
 
     def look(self, desks, entries):
         for desk in desks:
@@ -97,7 +114,9 @@ class Floor:
         if not fitting:
             raise Refused(6)
         self.notes.remove(min(fitting))
+        before = len(self.received[desk][entry])
         self.received[desk][entry].add(source)
+        return len(self.received[desk][entry]) > before
 
     def crash(self, desk):
         self.look([desk], [])

@@ -176,5 +176,8 @@ module _ (s : State) (h : Shape s) where
   effect-shape unknown _ = h
 
 -- THE SHAPE IS KEPT
+pub next-shaped : (s : State) (m : Move) → Shape s → Shape (next s m)
+next-shaped s m h = next-keeps Shape s m h (effect-shape s h m)
+
 pub next-shape : (s : State) (m : Move) → inShape s ≡ true → inShape (next s m) ≡ true
-next-shape s m h = in-shape (next s m) (next-keeps Shape s m (shape s h) (effect-shape s (shape s h) m))
+next-shape s m h = in-shape (next s m) (next-shaped s m (shape s h))

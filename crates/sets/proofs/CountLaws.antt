@@ -17,7 +17,7 @@ up {k = k} l = lt-of-lt-of-le l (le-suc k)
 pub below-ne : {j k : ℕ} → j < k → j ≢ k
 below-ne {k = k} l e = lt-irrefl k (subst (λ (n : ℕ). n < k) e l)
 
-bit-le : (a : Bool) → bit a ≤ 1
+pub bit-le : (a : Bool) → bit a ≤ 1
 bit-le true = le-refl 1
 bit-le false = zero-le
 

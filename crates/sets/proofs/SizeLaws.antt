@@ -1,6 +1,7 @@
 -- Laws of `size`, for every width: what a machine's count of digits gives, and what an insertion adds. Assumes nothing.
 use mathlib.Core.Path.{_≡_, sym, ap, ap₂, _∙_}
-use mathlib.Core.Bool.{false}
+use mathlib.Core.Bool.{false, not}
+use mathlib.Core.Logic.{⊎-elim}
 use Prim.Native.Nat.{ℕ, zero, suc, _+_, _/_, _^_, _≤_, _<_}
 use native.Mathlib.Nat.{lt-of-lt-of-le}
 use native.Mathlib.Omega.{arith}
@@ -9,11 +10,20 @@ use lib.Pow.{pow-mono}
 use lib.Count.{ones, ones-step}
 use Rattle.sets.specs.Counting.{bit, count}
 use Rattle.sets.specs.Sets.{member, insert, size}
+use Rattle.sets.proofs.Tests.{decided}
 use Rattle.sets.proofs.CountLaws.{count-low, count-ext, count-add, count-none}
-use Rattle.sets.proofs.MemberLaws.{member-suc, low-bit, member-zero, insert-same, insert-other}
+use Rattle.sets.proofs.MemberLaws.{member-suc, low-bit, member-zero, insert-same, insert-other, insert-old}
 
 pub size-new : (k x i : ℕ) → i < k → member x i ≡ false → size k (insert x i) ≡ suc (size k x)
 size-new k x i l e = count-add (member x) (member (insert x i)) i k l e (insert-same x i) (insert-other x i)
+
+-- one more where the number is new, and none where it is a member
+pub size-insert : (k x i : ℕ) → i < k → size k (insert x i) ≡ size k x + bit (not (member x i))
+size-insert k x i l =
+    ⊎-elim
+    (λ old. rw (insert-old x i old, old) (omega arith))
+    (λ new. rw new (size-new k x i l new ∙ omega arith))
+    (decided (member x i))
 
 pub size-empty : (k : ℕ) → size k 0 ≡ 0
 size-empty k = count-none (member 0) k (λ i l. member-zero i)
