@@ -17,48 +17,37 @@ use Rattle.floors.specs.Bridge.{settingsOf, readOf}
 use Rattle.floors.specs.declared.Settings.{Settings}
 use Rattle.floors.specs.declared.Desk.{Desk}
 
+-- the test of an entry by the number of its sources
+unfoldable pub bySources : (ℕ → Bool) → List ℕ → ℕ → Bool
+bySources enough received e = enough (size 16 (getD received e 0))
+
 -- a turn at entry e, which b says to put in or not
-gather : (test : ℕ → Bool) (first e set set′ : ℕ) (b : Bool) → e < 64 → set ≡ insertAll test first e → b ≡ test e
-    → set′ ≡ cond b (insertBelow 64 set e) set → set′ ≡ insertAll test first (e + 1)
-gather test first e set set′ true l inv t s = s ∙ insertBelow-low 64 set e l ∙ ap (λ (x : ℕ). insert x e) inv ∙ sym (insertAll-take test first e (sym t))
-gather test first e set set′ false l inv t s = s ∙ inv ∙ sym (insertAll-skip test first e (sym t))
-
--- more sources than so many
-unfoldable pub moreThan : ℕ → List ℕ → ℕ → Bool
-moreThan few received e = ltb few (size 16 (getD received e 0))
-
-pub gather-heard : (few : ℕ) (received : List ℕ) (first e set set′ : ℕ) (b : Bool) → e < 64 → set ≡ insertAll (moreThan few received) first e
-    → b ≡ ltb few (size 16 (getD received e 0)) → set′ ≡ cond b (insertBelow 64 set e) set → set′ ≡ insertAll (moreThan few received) first (e + 1)
-unfolding moreThan
-gather-heard few received first e set set′ b l inv t s = gather (moreThan few received) first e set set′ b l inv t s
+pub gather : (enough : ℕ → Bool) (received : List ℕ) (first e set set′ : ℕ) (b : Bool) → e < 64 → set ≡ insertAll (bySources enough received) first e
+    → b ≡ enough (size 16 (getD received e 0)) → set′ ≡ cond b (insertBelow 64 set e) set → set′ ≡ insertAll (bySources enough received) first (e + 1)
+unfolding bySources
+gather enough received first e set set′ true l inv t s =
+    s ∙ insertBelow-low 64 set e l ∙ ap (λ (x : ℕ). insert x e) inv ∙ sym (insertAll-take (bySources enough received) first e (sym t))
+gather enough received first e set set′ false l inv t s = s ∙ inv ∙ sym (insertAll-skip (bySources enough received) first e (sym t))
 
 -- the entries that were heard enough, less those that were sent, are those that are due
-pub due-end : (k : Settings) (d : Desk) (e set left : ℕ) → set ≡ insertAll (moreThan (k .f) (d .received)) 0 e → e ≡ k .u → left ≡ bitOr set (d .sent .0) - d .sent .0
+pub due-end : (k : Settings) (d : Desk) (e set left : ℕ) → set ≡ insertAll (bySources (ltb (k .f)) (d .received)) 0 e → e ≡ k .u → left ≡ bitOr set (d .sent .0) - d .sent .0
     → left ≡ insertAll (due (settingsOf k) (readOf d)) 0 (k .u)
-unfolding moreThan
+unfolding bySources
 due-end k d e set left s q r =
     ext-all left (insertAll (due (settingsOf k) (readOf d)) 0 (k .u)) (λ i. rw r (member-less i set (d .sent .0)) ∙ ⊎-elim (past i) (here i) (le-or-lt (k .u) i))
   where
     past : (i : ℕ) → k .u ≤ i → (member set i && not (member (d .sent .0) i)) ≡ member (insertAll (due (settingsOf k) (readOf d)) 0 (k .u)) i
     past i h =
-        rw (s, q, insertAll-high (moreThan (k .f) (d .received)) 0 (k .u) i h, insertAll-high (due (settingsOf k) (readOf d)) 0 (k .u) i h, member-zero i)
+        rw (s, q, insertAll-high (bySources (ltb (k .f)) (d .received)) 0 (k .u) i h, insertAll-high (due (settingsOf k) (readOf d)) 0 (k .u) i h, member-zero i)
 
     here : (i : ℕ) → i < k .u → (member set i && not (member (d .sent .0) i)) ≡ member (insertAll (due (settingsOf k) (readOf d)) 0 (k .u)) i
     here i h =
-        rw (s, q, insertAll-member (moreThan (k .f) (d .received)) (k .u) i h, insertAll-member (due (settingsOf k) (readOf d)) (k .u) i h)
+        rw (s, q, insertAll-member (bySources (ltb (k .f)) (d .received)) (k .u) i h, insertAll-member (due (settingsOf k) (readOf d)) (k .u) i h)
         (sym (due-is (settingsOf k) (readOf d) i))
 
--- at least so many sources
-unfoldable pub atLeast : ℕ → List ℕ → ℕ → Bool
-atLeast least received e = leb least (size 16 (getD received e 0))
-
-pub gather-ripe : (least : ℕ) (received : List ℕ) (first e set set′ : ℕ) (b : Bool) → e < 64 → set ≡ insertAll (atLeast least received) first e
-    → b ≡ leb least (size 16 (getD received e 0)) → set′ ≡ cond b (insertBelow 64 set e) set → set′ ≡ insertAll (atLeast least received) first (e + 1)
-unfolding atLeast
-gather-ripe least received first e set set′ b l inv t s = gather (atLeast least received) first e set set′ b l inv t s
-
-pub ripe-end : (k : Settings) (j : ℕ) (d : Desk) (least e set : ℕ) → set ≡ insertAll (atLeast least (d .received)) (d .listed .0) e → least ≡ k .n - k .f → e ≡ k .u
+-- the entries of at least so many sources are ripe
+pub ripe-end : (k : Settings) (j : ℕ) (d : Desk) (least e set : ℕ) → set ≡ insertAll (bySources (leb least) (d .received)) (d .listed .0) e → least ≡ k .n - k .f → e ≡ k .u
     → set ≡ insertAll (ripe (settingsOf k) j (readOf d)) (d .listed .0) (k .u)
-unfolding atLeast
+unfolding bySources
 ripe-end k j d least e set s p q =
-    s ∙ rw (q, p) (insertAll-same (atLeast (k .n - k .f) (d .received)) (ripe (settingsOf k) j (readOf d)) (d .listed .0) (k .u) (λ i l. sym (ripe-is (settingsOf k) j (readOf d) i)))
+    s ∙ rw (q, p) (insertAll-same (bySources (leb (k .n - k .f)) (d .received)) (ripe (settingsOf k) j (readOf d)) (d .listed .0) (k .u) (λ i l. sym (ripe-is (settingsOf k) j (readOf d) i)))

@@ -2,14 +2,15 @@
 use mathlib.Core.Path.{_≡_, sym}
 use Prim.Native.Nat.{_≤_, _-_}
 use native.Mathlib.Omega.{arith}
+use lib.Dec.{leb}
 use Rattle.sets.specs.Sets.{insertAll}
 use Rattle.sets.proofs.InsertAllLaws.{insertAll-zero}
-use Rattle.floors.proofs.Gather.{atLeast, gather-ripe, ripe-end}
+use Rattle.floors.proofs.Gather.{bySources, gather, ripe-end}
 use Rattle.floors.proofs.Desk.accept.Statement.{statement}
 use Rattle.floors.proofs.Desk.accept.Tie as tie
 
 abbrev Inv-loop : tie.InvT-loop
-Inv-loop self enough u listed₀ e₀ listed e = (e ≤ u) × (listed .0 ≡ insertAll (atLeast enough (self .received)) (listed₀ .0) e)
+Inv-loop self enough u listed₀ e₀ listed e = (e ≤ u) × (listed .0 ≡ insertAll (bySources (leb enough) (self .received)) (listed₀ .0) e)
 
 abbrev μ-loop : tie.MeasureT-loop
 μ-loop self enough u listed₀ e₀ listed e = u - e
@@ -42,7 +43,7 @@ loop-less : tie.Need-loop-less Inv-loop μ-loop
 loop-less c = omega arith
 
 loop-again : tie.Need-loop-again Inv-loop μ-loop
-loop-again c = (omega arith, gather-ripe _ _ _ _ _ _ _ (omega arith) (c .before .before .before .before .loop .inv .1) (c .before .is-ripe .ensures) (c .with-if .ensures))
+loop-again c = (omega arith, gather _ _ _ _ _ _ _ (omega arith) (c .before .before .before .before .loop .inv .1) (c .before .is-ripe .ensures) (c .with-if .ensures))
 
 returns : tie.Need-returns Inv-loop μ-loop
 returns c =

@@ -2,14 +2,15 @@
 use mathlib.Core.Path.{_≡_, sym, _∙_}
 use Prim.Native.Nat.{_≤_, _-_}
 use native.Mathlib.Omega.{arith}
+use lib.Dec.{ltb}
 use Rattle.sets.specs.Sets.{insertAll}
 use Rattle.sets.proofs.InsertAllLaws.{insertAll-zero}
-use Rattle.floors.proofs.Gather.{moreThan, gather-heard, due-end}
+use Rattle.floors.proofs.Gather.{bySources, gather, due-end}
 use Rattle.floors.proofs.Desk.due.Statement.{statement}
 use Rattle.floors.proofs.Desk.due.Tie as tie
 
 abbrev Inv-loop : tie.InvT-loop
-Inv-loop settings self u heard₀ e₀ heard e = (e ≤ u) × (u ≡ settings .u) × (heard .0 ≡ insertAll (moreThan (settings .f) (self .received)) 0 e)
+Inv-loop settings self u heard₀ e₀ heard e = (e ≤ u) × (u ≡ settings .u) × (heard .0 ≡ insertAll (bySources (ltb (settings .f)) (self .received)) 0 e)
 
 abbrev μ-loop : tie.MeasureT-loop
 μ-loop settings self u heard₀ e₀ heard e = u - e
@@ -42,7 +43,7 @@ loop-less : tie.Need-loop-less Inv-loop μ-loop
 loop-less c = omega arith
 
 loop-again : tie.Need-loop-again Inv-loop μ-loop
-loop-again c = (omega arith, omega arith, gather-heard _ _ _ _ _ _ _ (omega arith) (c .before .before .before .before .loop .inv .2) (c .before .is-heard .ensures) (c .with-if .ensures))
+loop-again c = (omega arith, omega arith, gather _ _ _ _ _ _ _ (omega arith) (c .before .before .before .before .loop .inv .2) (c .before .is-heard .ensures) (c .with-if .ensures))
 
 unsent-requires : tie.Need-unsent-requires Inv-loop μ-loop
 unsent-requires c κs = omega arith
