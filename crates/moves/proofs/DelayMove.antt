@@ -21,7 +21,7 @@ use Rattle.floors.specs.declared.Settings.{Settings}
 use Rattle.floors.specs.declared.Floor.{Floor}
 use Rattle.floors.proofs.Bridge.{floor-same, desk-at, faulty-back, pass-back, accept-back, listed-back, sent-back, received-back}
 use Rattle.moves.specs.declared.head.Head.{Head}
-use Rattle.moves.specs.Moves.{Ready, stepAt, held, left, laterBy, timersFit, TimersFit}
+use Rattle.moves.specs.Moves.{Ready, toldAt, held, left, laterBy, timersFit, TimersFit, answering}
 use Rattle.moves.proofs.Steps.{step-done, refused}
 
 -- ---- the first n of a list
@@ -114,14 +114,14 @@ module _ (k : Settings) (h r : Head) (f : List Bool) (p a l s x area : List ℕ)
   abbrev at : State
   at = stateOf fl area
 
-  pub delay-14 : lastTick - h .clock < t → r ≡ record { answer = 14; clock = h .clock; waiting = h .waiting } → left k r f p a l s x area ≡ stepAt fl area (delay t)
+  pub delay-14 : lastTick - h .clock < t → r ≡ answering 14 h → left k r f p a l s x area ≡ toldAt fl area (delay t)
   delay-14 g e = refused k h r f p a l s x area (delay t) 14 refl (answer-delay at t ∙ first-fails 14 (ltb lastTick (h .clock + t)) _ (lt-ltb lastTick (h .clock + t) (omega arith))) e
 
   module _ (g : t ≤ lastTick - h .clock) (none : Bool) (o : none ≡ everyNote (notPast (h .clock + t)) (take (h .waiting) area)) where
     in-range : answer at (delay t) ≡ firstOf (12 when not (everyNote (notPast (h .clock + t)) (take (h .waiting) area)) ∷ 13 when not (everyBelow (timersHold at t) (k .n)) ∷ [])
     in-range = answer-delay at t ∙ first-passes 14 (ltb lastTick (h .clock + t)) _ (le-ltb lastTick (h .clock + t) (omega (arith, ready .clock)))
 
-    pub delay-12 : not none ≡ true → r ≡ record { answer = 12; clock = h .clock; waiting = h .waiting } → left k r f p a l s x area ≡ stepAt fl area (delay t)
+    pub delay-12 : not none ≡ true → r ≡ answering 12 h → left k r f p a l s x area ≡ toldAt fl area (delay t)
     delay-12 y e =
         refused k h r f p a l s x area (delay t) 12 refl (in-range ∙ first-fails 12 (not (everyNote (notPast (h .clock + t)) (take (h .waiting) area))) _ (ap not (was-false o y))) e
 
@@ -132,13 +132,13 @@ module _ (k : Settings) (h r : Head) (f : List Bool) (p a l s x area : List ℕ)
       timers : everyBelow (timersHold at t) (k .n) ≡ everyBelow (timersFit (k .p) (k .a) t p a) (k .n)
       timers = timers-same fl sized area (ready .waiting) t (ready .desks)
 
-      pub delay-13 : not hold ≡ true → r ≡ record { answer = 13; clock = h .clock; waiting = h .waiting } → left k r f p a l s x area ≡ stepAt fl area (delay t)
+      pub delay-13 : not hold ≡ true → r ≡ answering 13 h → left k r f p a l s x area ≡ toldAt fl area (delay t)
       delay-13 z e = refused k h r f p a l s x area (delay t) 13 refl (timely ∙ first-fails 13 (not (everyBelow (timersHold at t) (k .n))) [] (ap not (timers ∙ was-false v z))) e
 
       pub delay-0 : not hold ≡ false → (p′ a′ : List ℕ) → p′ ≡ mapFirst (k .n) (laterBy t) p → a′ ≡ mapFirst (k .n) (laterBy t) a
-          → left k (record { answer = 0; clock = h .clock + t; waiting = h .waiting }) f p′ a′ l s x area ≡ stepAt fl area (delay t)
+          → left k (record { answer = 0; new = false; clock = h .clock + t; waiting = h .waiting }) f p′ a′ l s x area ≡ toldAt fl area (delay t)
       delay-0 z p′ a′ e i =
-          step-done fl area (delay t) (held k (record { answer = 0; clock = h .clock + t; waiting = h .waiting }) f p′ a′ l s x) area
+          step-done fl area (delay t) (held k (record { answer = 0; new = false; clock = h .clock + t; waiting = h .waiting }) f p′ a′ l s x) area
           (timely ∙ first-passes 13 (not (everyBelow (timersHold at t) (k .n))) [] (ap not (timers ∙ was-true v z)) ∙ first-none)
           (rw (e, i) (sym (delay-floor fl sized area (ready .waiting) t)))
           (sym (ap (λ (z : State). laid (h .waiting) area (z .notes)) (effect-delay at t) ∙ laid-same (h .waiting) area (ready .waiting)))

@@ -30,7 +30,7 @@ use Rattle.floors.specs.declared.Floor.{Floor}
 use Rattle.floors.specs.declared.Desk as machine
 use Rattle.floors.proofs.Bridge.{floor-same, desk-at, row-stays, back, faulty-back, pass-back, accept-back, listed-back, sent-back, received-back}
 use Rattle.moves.specs.declared.head.Head.{Head}
-use Rattle.moves.specs.Moves.{Ready, stepAt, held, left}
+use Rattle.moves.specs.Moves.{Ready, toldAt, held, left, answering}
 use Rattle.moves.proofs.Steps.{desk-fails, desk-passes, entry-fails, entry-passes, room-fails, room-passes, step-done, refused}
 use Rattle.moves.proofs.DeskMoves.{turned}
 
@@ -46,10 +46,10 @@ module _ (k : Settings) (h r : Head) (f : List Bool) (p a l s x area : List ℕ)
 
   -- ---- announce
 
-  pub announce-4 : (e : ℕ) → k .n ≤ i → r ≡ record { answer = 4; clock = h .clock; waiting = h .waiting } → left k r f p a l s x area ≡ stepAt fl area (announce i e)
+  pub announce-4 : (e : ℕ) → k .n ≤ i → r ≡ answering 4 h → left k r f p a l s x area ≡ toldAt fl area (announce i e)
   announce-4 e n q = refused k h r f p a l s x area (announce i e) 4 refl (answer-announce at i e ∙ desk-fails at _ i n) q
 
-  pub announce-5 : (e : ℕ) → i < k .n → k .u ≤ e → r ≡ record { answer = 5; clock = h .clock; waiting = h .waiting } → left k r f p a l s x area ≡ stepAt fl area (announce i e)
+  pub announce-5 : (e : ℕ) → i < k .n → k .u ≤ e → r ≡ answering 5 h → left k r f p a l s x area ≡ toldAt fl area (announce i e)
   announce-5 e n u q = refused k h r f p a l s x area (announce i e) 5 refl (answer-announce at i e ∙ desk-passes at _ i n ∙ entry-fails at _ e u) q
 
   module _ (ready : Ready k h (length area)) (sized : Sized fl) (n : i < k .n) where
@@ -66,8 +66,8 @@ module _ (k : Settings) (h r : Head) (f : List Bool) (p a l s x area : List ℕ)
       sent-mark : (b : Bool) → b ≡ member (getD s i 0) e → isSent (deskAt at i) e ≡ b
       sent-mark b m = ap (λ (d : Desk). isSent d e) desk ∙ sym m
 
-      pub announce-again : (b : Bool) → b ≡ member (getD s i 0) e → b ≡ true → r ≡ record { answer = 0; clock = h .clock; waiting = h .waiting }
-          → left k r f p a l s x area ≡ stepAt fl area (announce i e)
+      pub announce-again : (b : Bool) → b ≡ member (getD s i 0) e → b ≡ true → r ≡ answering 0 h
+          → left k r f p a l s x area ≡ toldAt fl area (announce i e)
       announce-again b m t q =
           let same : announced at i e ≡ at = announced-again at i e (sent-mark b m ∙ t) in
           let after : effect at (announce i e) ≡ at = effect-announce at i e ∙ same in
@@ -82,20 +82,20 @@ module _ (k : Settings) (h r : Head) (f : List Bool) (p a l s x area : List ℕ)
         first : announced at i e ≡ sending at i e
         first = announced-first at i e (sent-mark b m ∙ t)
 
-        pub announce-11 : mostNotes < count → r ≡ record { answer = 11; clock = h .clock; waiting = h .waiting } → left k r f p a l s x area′ ≡ stepAt fl area (announce i e)
+        pub announce-11 : mostNotes < count → r ≡ answering 11 h → left k r f p a l s x area′ ≡ toldAt fl area (announce i e)
         announce-11 g q =
             rw (posts-refused _ (h .waiting) area area′ count P (omega (arith, ready .exact)))
             (refused k h r f p a l s x area (announce i e) 11 refl
             (room ∙ ap (λ (z : State). firstOf (noRoom (z .notes) ∷ [])) first ∙ room-fails (sending at i e .notes) [] (subst (λ (c : ℕ). mostNotes < c) (P .counted) g)) q)
 
         pub announce-0 : count ≤ mostNotes → (marks : ℕ) → marks ≡ insertBelow 64 (getD s i 0) e
-            → left k (record { answer = 0; clock = h .clock; waiting = count }) f p a l (set s i marks) x area′ ≡ stepAt fl area (announce i e)
+            → left k (record { answer = 0; new = false; clock = h .clock; waiting = count }) f p a l (set s i marks) x area′ ≡ toldAt fl area (announce i e)
         announce-0 g marks put =
             let H : Holds (postAll waiting (broadcast (h .clock + k .m) i e (k .n))) (h .waiting) area area′ count =
             posts-holds _ (h .waiting) area area′ count P (omega (arith, ready .exact)) in
             let low : marks ≡ insert (getD s i 0) e = put ∙ insertBelow-low 64 (getD s i 0) e (omega (arith, ready .entries)) in
             let after : effect at (announce i e) ≡ sending at i e = effect-announce at i e ∙ first in
-            step-done fl area (announce i e) (held k (record { answer = 0; clock = h .clock; waiting = count }) f p a l (set s i marks) x) area′
+            step-done fl area (announce i e) (held k (record { answer = 0; new = false; clock = h .clock; waiting = count }) f p a l (set s i marks) x) area′
             (room ∙ ap (λ (z : State). firstOf (noRoom (z .notes) ∷ [])) first ∙ room-passes (sending at i e .notes) [] (subst (λ (c : ℕ). c ≤ mostNotes) (P .counted) g) ∙ first-none)
             (sym (ap floorOf after ∙ turned fl sized area (ready .waiting) i (omega (arith, ready .desks)) (λ d. withSent (insert (d .sent) e) d) (sending at i e .notes)
             ∙ floor-same (sym (H .counted)) (set-getD f i false) (set-getD p i 0) (set-getD a i 0) (set-getD l i 0) (ap (set s i) (sym low)) (row-stays fl sized i (omega (arith, ready .desks)))))
@@ -103,7 +103,7 @@ module _ (k : Settings) (h r : Head) (f : List Bool) (p a l s x area : List ℕ)
 
   -- ---- pass on
 
-  pub pass-4 : k .n ≤ i → r ≡ record { answer = 4; clock = h .clock; waiting = h .waiting } → left k r f p a l s x area ≡ stepAt fl area (passOn i)
+  pub pass-4 : k .n ≤ i → r ≡ answering 4 h → left k r f p a l s x area ≡ toldAt fl area (passOn i)
   pass-4 n q = refused k h r f p a l s x area (passOn i) 4 refl (answer-passOn at i ∙ desk-fails at _ i n) q
 
   -- d is desk i, es the set of its entries that are due, and count and area′ what posting their broadcasts left
@@ -128,13 +128,13 @@ module _ (k : Settings) (h r : Head) (f : List Bool) (p a l s x area : List ℕ)
     fits : answer at (passOn i) ≡ firstOf (noRoom (postAll waiting (broadcasts (member es) (h .clock + k .m) i (k .n) (k .u))) ∷ [])
     fits = answer-passOn at i ∙ desk-passes at _ i n ∙ ap (λ (ns : List ℕ). firstOf (noRoom ns ∷ [])) notes-are
 
-    pub pass-11 : mostNotes < count → r ≡ record { answer = 11; clock = h .clock; waiting = h .waiting } → left k r f p a l s x area′ ≡ stepAt fl area (passOn i)
+    pub pass-11 : mostNotes < count → r ≡ answering 11 h → left k r f p a l s x area′ ≡ toldAt fl area (passOn i)
     pass-11 full q =
         rw (posts-refused _ (h .waiting) area area′ count P (omega (arith, ready .exact)))
         (refused k h r f p a l s x area (passOn i) 11 refl (fits ∙ room-fails (postAll waiting (broadcasts (member es) (h .clock + k .m) i (k .n) (k .u))) [] (subst (λ (c : ℕ). mostNotes < c) (P .counted) full)) q)
 
     pub pass-0 : count ≤ mostNotes → (d′ : machine.Desk) → readOf d′ ≡ timed 0 (d .accept) (withSent (bitOr (d .sent .0) es) (readOf d))
-        → left k (record { answer = 0; clock = h .clock; waiting = count }) f (set p i (d′ .pass)) a l (set s i (d′ .sent .0)) x area′ ≡ stepAt fl area (passOn i)
+        → left k (record { answer = 0; new = false; clock = h .clock; waiting = count }) f (set p i (d′ .pass)) a l (set s i (d′ .sent .0)) x area′ ≡ toldAt fl area (passOn i)
     pass-0 full d′ o =
         let H : Holds (postAll waiting (broadcasts (member es) (h .clock + k .m) i (k .n) (k .u))) (h .waiting) area area′ count =
         posts-holds _ (h .waiting) area area′ count P (omega (arith, ready .exact)) in
@@ -142,7 +142,7 @@ module _ (k : Settings) (h r : Head) (f : List Bool) (p a l s x area : List ℕ)
         ap (λ (y : Desk). y .sent) o ∙ ap (bitOr (d .sent .0)) dues ∙ insertAll-or (due (settingsOf k) (readOf d)) (d .sent .0) (k .u)
         ∙ ap (λ (y : Desk). passing (settingsOf k) y .sent) g in
         let after : effect at (passOn i) ≡ passingOn at i = effect-passOn at i ∙ passedOn-is at i in
-        step-done fl area (passOn i) (held k (record { answer = 0; clock = h .clock; waiting = count }) f (set p i (d′ .pass)) a l (set s i (d′ .sent .0)) x) area′
+        step-done fl area (passOn i) (held k (record { answer = 0; new = false; clock = h .clock; waiting = count }) f (set p i (d′ .pass)) a l (set s i (d′ .sent .0)) x) area′
         (fits ∙ room-passes (postAll waiting (broadcasts (member es) (h .clock + k .m) i (k .n) (k .u))) [] (subst (λ (c : ℕ). c ≤ mostNotes) (P .counted) full) ∙ first-none)
         (sym (ap floorOf after ∙ turned fl sized area (ready .waiting) i (omega (arith, ready .desks)) (passing (settingsOf k)) (passingOn at i .notes)
         ∙ floor-same (ap (λ (xs : List ℕ). length (postAll waiting xs)) (sym same-notes) ∙ sym (H .counted)) (set-getD f i false) (ap (λ (y : Desk). set p i (y .pass)) (sym o))
@@ -152,15 +152,15 @@ module _ (k : Settings) (h r : Head) (f : List Bool) (p a l s x area : List ℕ)
   -- ---- a false note, to desk j
 
   module _ (j e t : ℕ) where
-    pub false-4 : k .n ≤ i → r ≡ record { answer = 4; clock = h .clock; waiting = h .waiting } → left k r f p a l s x area ≡ stepAt fl area (falseNote i j e t)
+    pub false-4 : k .n ≤ i → r ≡ answering 4 h → left k r f p a l s x area ≡ toldAt fl area (falseNote i j e t)
     false-4 n q = refused k h r f p a l s x area (falseNote i j e t) 4 refl (answer-false at i j e t ∙ desk-fails at _ i n) q
 
     module _ (n : i < k .n) where
-      pub false-4′ : k .n ≤ j → r ≡ record { answer = 4; clock = h .clock; waiting = h .waiting } → left k r f p a l s x area ≡ stepAt fl area (falseNote i j e t)
+      pub false-4′ : k .n ≤ j → r ≡ answering 4 h → left k r f p a l s x area ≡ toldAt fl area (falseNote i j e t)
       false-4′ n′ q = refused k h r f p a l s x area (falseNote i j e t) 4 refl (answer-false at i j e t ∙ desk-passes at _ i n ∙ desk-fails at _ j n′) q
 
       module _ (n′ : j < k .n) where
-        pub false-5 : k .u ≤ e → r ≡ record { answer = 5; clock = h .clock; waiting = h .waiting } → left k r f p a l s x area ≡ stepAt fl area (falseNote i j e t)
+        pub false-5 : k .u ≤ e → r ≡ answering 5 h → left k r f p a l s x area ≡ toldAt fl area (falseNote i j e t)
         false-5 u q =
             refused k h r f p a l s x area (falseNote i j e t) 5 refl (answer-false at i j e t ∙ desk-passes at _ i n ∙ desk-passes at _ j n′ ∙ entry-fails at _ e u) q
 
@@ -172,19 +172,19 @@ module _ (k : Settings) (h r : Head) (f : List Bool) (p a l s x area : List ℕ)
               firstOf (8 when not (deskAt at i .faulty) ∷ 10 when (ltb t (h .clock) || ltb (newTimeOut at) t) ∷ noRoom (post waiting (noteOf t i j e)) ∷ [])
           named = answer-false at i j e t ∙ desk-passes at _ i n ∙ desk-passes at _ j n′ ∙ entry-passes at _ e u
 
-          pub false-8 : not (getD f i false) ≡ true → r ≡ record { answer = 8; clock = h .clock; waiting = h .waiting } → left k r f p a l s x area ≡ stepAt fl area (falseNote i j e t)
+          pub false-8 : not (getD f i false) ≡ true → r ≡ answering 8 h → left k r f p a l s x area ≡ toldAt fl area (falseNote i j e t)
           false-8 b q = refused k h r f p a l s x area (falseNote i j e t) 8 refl (named ∙ first-fails 8 (not (deskAt at i .faulty)) _ (ap not mark ∙ b)) q
 
           module _ (b : not (getD f i false) ≡ false) where
             lies : answer at (falseNote i j e t) ≡ firstOf (10 when (ltb t (h .clock) || ltb (newTimeOut at) t) ∷ noRoom (post waiting (noteOf t i j e)) ∷ [])
             lies = named ∙ first-passes 8 (not (deskAt at i .faulty)) _ (ap not mark ∙ b)
 
-            pub false-10 : t < h .clock → r ≡ record { answer = 10; clock = h .clock; waiting = h .waiting } → left k r f p a l s x area ≡ stepAt fl area (falseNote i j e t)
+            pub false-10 : t < h .clock → r ≡ answering 10 h → left k r f p a l s x area ≡ toldAt fl area (falseNote i j e t)
             false-10 c q =
                 refused k h r f p a l s x area (falseNote i j e t) 10 refl
                 (lies ∙ first-fails 10 (ltb t (h .clock) || ltb (newTimeOut at) t) _ (or-left (ltb t (h .clock)) (ltb (newTimeOut at) t) (lt-ltb t (h .clock) c))) q
 
-            pub false-10′ : h .clock + k .m < t → r ≡ record { answer = 10; clock = h .clock; waiting = h .waiting } → left k r f p a l s x area ≡ stepAt fl area (falseNote i j e t)
+            pub false-10′ : h .clock + k .m < t → r ≡ answering 10 h → left k r f p a l s x area ≡ toldAt fl area (falseNote i j e t)
             false-10′ c q =
                 refused k h r f p a l s x area (falseNote i j e t) 10 refl
                 (lies ∙ first-fails 10 (ltb t (h .clock) || ltb (newTimeOut at) t) _ (or-right (ltb t (h .clock)) (ltb (newTimeOut at) t) (lt-ltb (newTimeOut at) t c))) q
@@ -202,15 +202,15 @@ module _ (k : Settings) (h r : Head) (f : List Bool) (p a l s x area : List ℕ)
               counts : count ≡ length (post waiting (noteOf t i j e))
               counts = P .counted ∙ ap length posted
 
-              pub false-11 : mostNotes < count → r ≡ record { answer = 11; clock = h .clock; waiting = h .waiting } → left k r f p a l s x area′ ≡ stepAt fl area (falseNote i j e t)
+              pub false-11 : mostNotes < count → r ≡ answering 11 h → left k r f p a l s x area′ ≡ toldAt fl area (falseNote i j e t)
               false-11 full q =
                   rw (posts-refused _ (h .waiting) area area′ count P (omega (arith, ready .exact)))
                   (refused k h r f p a l s x area (falseNote i j e t) 11 refl (timely ∙ room-fails (post waiting (noteOf t i j e)) [] (subst (λ (c : ℕ). mostNotes < c) counts full)) q)
 
-              pub false-0 : count ≤ mostNotes → left k (record { answer = 0; clock = h .clock; waiting = count }) f p a l s x area′ ≡ stepAt fl area (falseNote i j e t)
+              pub false-0 : count ≤ mostNotes → left k (record { answer = 0; new = false; clock = h .clock; waiting = count }) f p a l s x area′ ≡ toldAt fl area (falseNote i j e t)
               false-0 full =
                   let H : Holds (postAll waiting (note ∷ [])) (h .waiting) area area′ count = posts-holds _ (h .waiting) area area′ count P (omega (arith, ready .exact)) in
-                  step-done fl area (falseNote i j e t) (held k (record { answer = 0; clock = h .clock; waiting = count }) f p a l s x) area′
+                  step-done fl area (falseNote i j e t) (held k (record { answer = 0; new = false; clock = h .clock; waiting = count }) f p a l s x) area′
                   (timely ∙ room-passes (post waiting (noteOf t i j e)) [] (subst (λ (c : ℕ). c ≤ mostNotes) counts full) ∙ first-none)
                   (floor-same counts (sym (faulty-back fl sized)) (sym (pass-back fl sized)) (sym (accept-back fl sized)) (sym (listed-back fl sized)) (sym (sent-back fl sized)) (sym (received-back fl sized))
                   ∙ sym (ap floorOf (effect-false at i j e t)))

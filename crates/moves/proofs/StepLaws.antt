@@ -1,26 +1,30 @@
 -- A step on a floor in shape: it answers and leaves what the rules say, refused or not, and a floor that the next may be made on.
 -- Assumes nothing.
 use mathlib.Core.Path.{_≡_, refl, sym, ap, _∙_, subst}
-use mathlib.Core.Bool.{Bool, true, false, cond}
+use mathlib.Core.Bool.{Bool}
 use mathlib.Core.Logic.{_≢_, ⊎-elim}
 use mathlib.Core.List.{List}
-use Prim.Native.Nat.{ℕ, _≤_}
+use Prim.Native.Nat.{ℕ, _+_, _≤_}
 use native.Mathlib.Omega.{arith}
 use lib.Dec.{eqb}
 use lib.ListN.{length}
 use borrow.Author.Tests.{eq-eqb, eqb-true, eqb-false}
-use Rattle.sets.proofs.Tests.{cond-true, decided}
+use Rattle.sets.specs.Counting.{bit}
+use Rattle.sets.proofs.Tests.{cond-true, cond-both, decided}
 use Rattle.rules.specs.Rules.{State, Move, answer, effect, next, mostNotes}
+use Rattle.rules.specs.NewSources.{isNew, sizes, allSizes}
 use Rattle.rules.proofs.CheckLaws.{carried-out, next-carried-out, next-refused}
 use Rattle.rules.proofs.Effects.{Whole, kept-whole, effect-kept}
 use Rattle.rules.proofs.Shapes.{Shape, Limits, shape-limits}
 use Rattle.rules.proofs.ShapeKept.{effect-shape}
+use Rattle.rules.proofs.NewSources.{next-sizes}
 use Rattle.notes.specs.Area.{laid}
 use Rattle.notes.proofs.AreaLaws.{take-laid, length-laid}
 use Rattle.floors.specs.Bridge.{settingsOf, stateOf, floorOf, Sized}
 use Rattle.floors.specs.declared.Floor.{Floor}
 use Rattle.floors.proofs.Bridge.{there, whole-sized, sized-whole}
-use Rattle.moves.specs.Moves.{Outcome, refusal, carriedOut, stepAt, Ready}
+use Rattle.floors.proofs.Sizes.{floor-sizes}
+use Rattle.moves.specs.Moves.{Outcome, refusal, carriedOut, stepAt, toldAt, Ready}
 use Rattle.moves.proofs.Steps.{step-refused}
 
 -- ---- a floor that a step may be made on
@@ -32,8 +36,8 @@ pub record Fit (fl : Floor) (area : List ℕ) : Type 0 where
   pub exact : length area ≡ mostNotes
 
 -- what the moves ask for
-pub fit-ready : (fl : Floor) (area : List ℕ) (number : ℕ) → Fit fl area → Ready (fl .settings) (record { answer = number; clock = fl .clock; waiting = fl .waiting }) (length area)
-fit-ready fl area number fit =
+pub fit-ready : (fl : Floor) (area : List ℕ) (number : ℕ) (new : Bool) → Fit fl area → Ready (fl .settings) (record { answer = number; new = new; clock = fl .clock; waiting = fl .waiting }) (length area)
+fit-ready fl area number new fit =
     let lim : Limits (settingsOf (fl .settings)) = shape-limits (stateOf fl area) (fit .shaped) in
     record {
       desks = lim .desks .1;
@@ -53,13 +57,20 @@ module _ (fl : Floor) (area : List ℕ) (m : Move) where
   abbrev s : State
   s = stateOf fl area
 
+  -- what is told, and what is left
+  pub told-new : toldAt fl area m .new ≡ isNew s m
+  unfolding toldAt
+  told-new = refl
+
+  pub told-out : toldAt fl area m .out ≡ stepAt fl area m
+  unfolding toldAt
+  told-out = refl
+
   pub step-answer : stepAt fl area m .answer ≡ answer s m
   unfolding stepAt
-  step-answer = go (eqb (answer s m) 0) refl
-    where
-      go : (b : Bool) → eqb (answer s m) 0 ≡ b → cond b (carriedOut fl area (effect s m)) (refusal (answer s m) fl area) .answer ≡ answer s m
-      go true e = sym (eqb-true (answer s m) 0 e)
-      go false e = refl
+  step-answer =
+      cond-both (λ (o : Outcome). o .answer ≡ answer s m) (eqb (answer s m) 0) (carriedOut fl area (effect s m)) (refusal (answer s m) fl area)
+      (λ e. sym (eqb-true (answer s m) 0 e)) (λ e. refl)
 
   module _ (fit : Fit fl area) (e : answer s m ≡ 0) where
     pub step-carried : stepAt fl area m ≡ carriedOut fl area (effect s m)
@@ -101,11 +112,9 @@ module _ (fl : Floor) (area : List ℕ) (m : Move) where
   -- the area stays as long as it was, refused or not
   pub step-long : Fit fl area → length (stepAt fl area m .area) ≡ length area
   unfolding stepAt
-  step-long fit = go (eqb (answer s m) 0) refl
-    where
-      go : (b : Bool) → eqb (answer s m) 0 ≡ b → length (cond b (carriedOut fl area (effect s m)) (refusal (answer s m) fl area) .area) ≡ length area
-      go true e = long fit (eqb-true (answer s m) 0 e)
-      go false e = refl
+  step-long fit =
+      cond-both (λ (o : Outcome). length (o .area) ≡ length area) (eqb (answer s m) 0) (carriedOut fl area (effect s m)) (refusal (answer s m) fl area)
+      (λ e. long fit (eqb-true (answer s m) 0 e)) (λ e. refl)
 
 -- a step leaves the next state, refused or not, and a floor that a step may be made on
 module _ (fl : Floor) (area : List ℕ) (m : Move) (fit : Fit fl area) where
@@ -117,3 +126,13 @@ module _ (fl : Floor) (area : List ℕ) (m : Move) (fit : Fit fl area) where
       (λ e. let z : answer (stateOf fl area) m ≢ 0 = eqb-false (answer (stateOf fl area) m) 0 e in
       rw (← step-refused fl area m (answer (stateOf fl area) m) z refl, next-refused (stateOf fl area) m z) (refl, fit))
       (decided (eqb (answer (stateOf fl area) m) 0))
+
+  -- all sets together grow by the source that is told of, and by no other
+  pub told-added : sizes (toldAt fl area m .out .floor .received) ≡ sizes (fl .received) + bit (toldAt fl area m .new)
+  told-added =
+      let s = stateOf fl area in
+      let o = stepAt fl area m in
+      let (state, left) = step-next in
+      let after : allSizes (next s m) ≡ sizes (o .floor .received) = ap allSizes (sym state) ∙ floor-sizes (o .floor) (o .area) (left .sized) in
+      rw (told-out fl area m, told-new fl area m)
+      (omega (arith, after, next-sizes s (sized-whole fl area (fit .sized)) (shape-limits s (fit .shaped)) m, floor-sizes fl area (fit .sized)))

@@ -1,5 +1,5 @@
 -- A step's two ways out, refused and carried out, and the checks that several moves share. Assumes nothing.
-use mathlib.Core.Path.{_≡_, refl, ap}
+use mathlib.Core.Path.{_≡_, sym, ap, _∙_}
 use mathlib.Core.Bool.{Bool, false, not}
 use mathlib.Core.List.{List, _∷_}
 use Prim.Native.Nat.{ℕ, _≤_, _<_}
@@ -7,13 +7,15 @@ use lib.Dec.{eqb, ltb}
 use lib.ListN.{length}
 use borrow.Author.Tests.{eq-eqb, ne-eqb, lt-ltb, le-ltb}
 use Rattle.rules.specs.Rules.{State, Move, Check, answer, effect, firstOf, noDeskNo, noEntryNo, noRoom, mostNotes}
+use Rattle.rules.specs.NewSources.{addsSource}
 use Rattle.rules.proofs.CheckLaws.{first-fails, first-passes, not-zero}
+use Rattle.rules.proofs.NewSources.{new-carried, new-refused}
 use Rattle.notes.specs.Area.{laid}
 use Rattle.floors.specs.Bridge.{stateOf, floorOf}
 use Rattle.floors.specs.declared.Settings.{Settings}
 use Rattle.floors.specs.declared.Floor.{Floor}
 use Rattle.moves.specs.declared.head.Head.{Head}
-use Rattle.moves.specs.Moves.{Outcome, refusal, stepAt, held, left}
+use Rattle.moves.specs.Moves.{refusal, stepAt, noneNew, toldAt, held, left, answering}
 
 -- ---- the checks that several moves share
 
@@ -39,22 +41,23 @@ module _ (ns : List ℕ) (cs : List Check) where
 
 -- ---- the two ways out
 
-outcome-same : {k k′ : ℕ} {f f′ : Floor} {a a′ : List ℕ} → k ≡ k′ → f ≡ f′ → a ≡ a′
-    → _≡_ {A = Outcome} (record { answer = k; floor = f; area = a }) (record { answer = k′; floor = f′; area = a′ })
-outcome-same p q r = cc
-
 module _ (fl : Floor) (area : List ℕ) (m : Move) where
   pub step-refused : (number : ℕ) → (number ≡ 0 → ⊥) → answer (stateOf fl area) m ≡ number → refusal number fl area ≡ stepAt fl area m
   unfolding stepAt
   step-refused number some e = rw (e, ne-eqb number 0 some)
 
+  pub told-refused : (number : ℕ) → (number ≡ 0 → ⊥) → answer (stateOf fl area) m ≡ number → noneNew (refusal number fl area) ≡ toldAt fl area m
+  unfolding toldAt
+  told-refused number some e = rw (new-refused (stateOf fl area) m (λ z. some (sym e ∙ z)), step-refused number some e)
+
   pub step-done : (fl′ : Floor) (area′ : List ℕ) → answer (stateOf fl area) m ≡ 0 → fl′ ≡ floorOf (effect (stateOf fl area) m)
-      → area′ ≡ laid (fl .waiting) area (effect (stateOf fl area) m .notes) → record { answer = 0; floor = fl′; area = area′ } ≡ stepAt fl area m
-  unfolding stepAt
-  step-done fl′ area′ e p q = rw (eq-eqb (answer (stateOf fl area) m) 0 e) (outcome-same refl p q)
+      → area′ ≡ laid (fl .waiting) area (effect (stateOf fl area) m .notes)
+      → record { new = addsSource (stateOf fl area) m; out = record { answer = 0; floor = fl′; area = area′ } } ≡ toldAt fl area m
+  unfolding stepAt toldAt
+  step-done fl′ area′ e p q = rw (new-carried (stateOf fl area) m e, eq-eqb (answer (stateOf fl area) m) 0 e, p, q)
 
 -- a head that says no, with the arrays as they were
 module _ (k : Settings) (h r : Head) (f : List Bool) (p a l s x area : List ℕ) (m : Move) where
   pub refused : (number : ℕ) → eqb number 0 ≡ false → answer (stateOf (held k h f p a l s x) area) m ≡ number
-      → r ≡ record { answer = number; clock = h .clock; waiting = h .waiting } → left k r f p a l s x area ≡ stepAt (held k h f p a l s x) area m
-  refused number some e q = rw q (step-refused (held k h f p a l s x) area m number (not-zero number some) e)
+      → r ≡ answering number h → left k r f p a l s x area ≡ toldAt (held k h f p a l s x) area m
+  refused number some e q = rw q (told-refused (held k h f p a l s x) area m number (not-zero number some) e)

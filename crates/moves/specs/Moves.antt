@@ -1,5 +1,5 @@
--- What a move on a floor and its note area gives: the rules' step, seen over the bridge; and the floor taken apart, as the moves are
--- lent it. Assumes nothing.
+-- What a move on a floor and its note area gives and tells: the rules' step, seen over the bridge; and the floor taken apart, as the
+-- moves are lent it. Assumes nothing.
 use mathlib.Core.Path.{_≡_}
 use mathlib.Core.Bool.{Bool, false, cond, _&&_}
 use mathlib.Core.List.{List}
@@ -8,6 +8,7 @@ use lib.Dec.{eqb, leb}
 use lib.ListN.{getD}
 use Rattle.rules.specs.Rules as rules
 use Rattle.rules.specs.Rules.{Move, mostNotes, lastTick}
+use Rattle.rules.specs.NewSources.{isNew}
 use Rattle.notes.specs.Area.{laid}
 use Rattle.floors.specs.Bridge.{floor, stateOf, floorOf}
 use Rattle.floors.specs.declared.Settings.{Settings}
@@ -34,15 +35,31 @@ stepAt fl area m =
     let number = rules.answer (stateOf fl area) m in
     cond (eqb number 0) (carriedOut fl area (rules.effect (stateOf fl area) m)) (refusal number fl area)
 
+-- an outcome, and what is told beside it: whether "a received note adds a source"
+pub record Told : Type 0 where
+  pub new : Bool
+  pub out : Outcome
+
+-- "on a refusal or another action the new flag is false"
+abbrev pub noneNew : Outcome → Told
+noneNew o = record { new = false; out = o }
+
+unfoldable pub toldAt : Floor → List ℕ → Move → Told
+toldAt fl area m = record { new = isNew (stateOf fl area) m; out = stepAt fl area m }
+
 -- ---- the floor taken apart
+
+-- the head as it was, with a number; nothing is new
+abbrev pub answering : ℕ → Head → Head
+answering number h = record { answer = number; new = false; clock = h .clock; waiting = h .waiting }
 
 -- the floor that the head and the arrays hold
 abbrev pub held : Settings → Head → List Bool → List ℕ → List ℕ → List ℕ → List ℕ → List ℕ → Floor
 held k h f p a l s r = floor k (h .clock) (h .waiting) f p a l s r
 
--- the outcome that the head and the arrays hold
-abbrev pub left : Settings → Head → List Bool → List ℕ → List ℕ → List ℕ → List ℕ → List ℕ → List ℕ → Outcome
-left k h f p a l s r area = record { answer = h .answer; floor = held k h f p a l s r; area = area }
+-- what the head tells, and the outcome that it holds with the arrays
+abbrev pub left : Settings → Head → List Bool → List ℕ → List ℕ → List ℕ → List ℕ → List ℕ → List ℕ → Told
+left k h f p a l s r area = record { new = h .new; out = record { answer = h .answer; floor = held k h f p a l s r; area = area } }
 
 -- what the inner functions use of a floor in shape, with an area of so many numbers
 pub record Ready (k : Settings) (h : Head) (room : ℕ) : Type 0 where

@@ -10,7 +10,7 @@ ghost use lib.Dec.{leb};
 ghost use lib.ListN.{length};
 ghost use Rattle.rules.specs.Rules.{mapFirst, everyBelow, delay};
 ghost use Rattle.floors.specs.Bridge.{Sized};
-ghost use Rattle.moves.specs.Moves.{Ready, held, left, stepAt, laterBy, timersFit, TimersFit};
+ghost use Rattle.moves.specs.Moves.{Ready, held, left, toldAt, laterBy, timersFit, TimersFit};
 
 // Whether a timer may go on by t.
 fn may_go_on(timer: u32, t: u32, limit: u32) -> bool
@@ -58,7 +58,7 @@ pub fn delay_by(
     requires { ⌜ Ready settings head (length (now area)) ⌝ }
     ensures { λ r. ⌜ ((f : List Bool) (l s x : List ℕ) → Sized (held settings head f (now (pass .entry)) (now (accept .entry)) l s x)
         → left settings r f (now (pass .exit)) (now (accept .exit)) l s x (now (area .entry))
-        ≡ stepAt (held settings head f (now (pass .entry)) (now (accept .entry)) l s x) (now (area .entry)) (delay t)) ⌝ }
+        ≡ toldAt (held settings head f (now (pass .entry)) (now (accept .entry)) l s x) (now (area .entry)) (delay t)) ⌝ }
 {
     let clock = head.clock;
     let waiting = head.waiting;
@@ -77,6 +77,7 @@ pub fn delay_by(
     go_on(accept, n, t);
     Head {
         answer: 0,
+        new: false,
         clock: later,
         waiting: waiting,
     }

@@ -9,15 +9,15 @@ use sets::DeskNo;
 use sets::DeskSet;
 use sets::EntryNo;
 ghost use mathlib.Core.Path.{_≡_};
-ghost use mathlib.Core.Bool.{Bool};
+ghost use mathlib.Core.Bool.{Bool, not};
 ghost use mathlib.Core.List.{List};
 ghost use Prim.Native.Nat.{ℕ, _+_, _*_, _≤_, _<_};
 ghost use lib.ListN.{length, getD, set};
-ghost use Rattle.sets.specs.Counting.{bit, count};
-ghost use Rattle.sets.specs.Sets.{insert};
+ghost use Rattle.sets.specs.Counting.{count};
+ghost use Rattle.sets.specs.Sets.{member, insert};
 ghost use Rattle.rules.specs.Rules as rules;
 ghost use Rattle.floors.specs.Bridge.{Sized};
-ghost use Rattle.moves.specs.Moves.{Ready, held, left, stepAt, markAt};
+ghost use Rattle.moves.specs.Moves.{Ready, held, left, toldAt, markAt};
 
 pub fn accept_by(
     settings: Settings,
@@ -33,7 +33,7 @@ pub fn accept_by(
     requires { ⌜ (settings .n ≤ 16) × (settings .u ≤ 64) × (settings .f ≤ settings .n) × Sized (held settings head (now faulty) (now pass) (now accept) (now listed) (now sent) (now received)) ⌝ }
     ensures { λ r. ⌜ ((area : List ℕ) → head .waiting ≤ length area
         → left settings r (now (faulty .entry)) (now (pass .entry)) (now (accept .exit)) (now (listed .exit)) (now (sent .entry)) (now (received .entry)) area
-        ≡ stepAt (held settings head (now (faulty .entry)) (now (pass .entry)) (now (accept .entry)) (now (listed .entry)) (now (sent .entry)) (now (received .entry))) area (rules.accept (desk .0))) ⌝ }
+        ≡ toldAt (held settings head (now (faulty .entry)) (now (pass .entry)) (now (accept .entry)) (now (listed .entry)) (now (sent .entry)) (now (received .entry))) area (rules.accept (desk .0))) ⌝ }
 {
     if settings.n <= desk.0 {
         return answered(4, head);
@@ -46,14 +46,17 @@ pub fn accept_by(
     answered(0, head)
 }
 
-// Receive's change of a desk: the source is put into the set of the entry.
-fn hear(received: &mut [u16; 1024], desk: DeskNo, entry: EntryNo, source: DeskNo)
+// Receive's change of a desk: the source is put into the set of the entry. Gives whether it is new there.
+fn hear(received: &mut [u16; 1024], desk: DeskNo, entry: EntryNo, source: DeskNo) -> bool
     requires { ⌜ (desk .0 < 16) × (entry .0 < 64) × (source .0 < 16) ⌝ }
-    ensures { λ _. ⌜ now (received .exit) ≡ set (now (received .entry)) (64 * (desk .0) + entry .0) (insert (getD (now (received .entry)) (64 * (desk .0) + entry .0) 0) (source .0)) ⌝ }
+    ensures { λ r. ⌜ (now (received .exit) ≡ set (now (received .entry)) (64 * (desk .0) + entry .0) (insert (getD (now (received .entry)) (64 * (desk .0) + entry .0) 0) (source .0)))
+        × (r ≡ not (member (getD (now (received .entry)) (64 * (desk .0) + entry .0) 0) (source .0))) ⌝ }
 {
     let at = 64 * (desk.0 as usize) + (entry.0 as usize);
     let sources = DeskSet(received[at]);
+    let new = !sources.has(source);
     received[at] = sources.with(source).0;
+    new
 }
 
 pub fn receive_by(
@@ -68,7 +71,7 @@ pub fn receive_by(
     requires { ⌜ Ready settings head (length (now area)) ⌝ }
     ensures { λ r. ⌜ ((f : List Bool) (p a l s : List ℕ) → Sized (held settings head f p a l s (now (received .entry)))
         → left settings r f p a l s (now (received .exit)) (now (area .exit))
-        ≡ stepAt (held settings head f p a l s (now (received .entry))) (now (area .entry)) (rules.receive (desk .0) (source .0) (entry .0))) ⌝ }
+        ≡ toldAt (held settings head f p a l s (now (received .entry))) (now (area .entry)) (rules.receive (desk .0) (source .0) (entry .0))) ⌝ }
 {
     if settings.n <= desk.0 {
         return answered(4, head);
@@ -84,21 +87,16 @@ pub fn receive_by(
     match found {
         Found::At(place) => {
             let count = notes::take_out(area, waiting, place);
-            hear(received, desk, entry, source);
+            let new = hear(received, desk, entry, source);
             Head {
                 answer: 0,
+                new: new,
                 clock: head.clock,
                 waiting: count,
             }
         }
         Found::Nothing => answered(6, head),
     }
-}
-
-fn one_if(mark: bool) -> u8
-    ensures { λ r. ⌜ (r ≡ bit mark) × (r ≤ 1) ⌝ }
-{
-    if mark { 1 } else { 0 }
 }
 
 // How many of the first n marks are set.
@@ -110,7 +108,7 @@ fn count_faulty(faulty: &[bool; 16], n: u8) -> u8
     let mut i: u8 = 0;
     while i < n {
         let at = i as usize;
-        marks += one_if(faulty[at]);
+        marks += faulty[at] as u8;
         i += 1;
     }
     marks
@@ -119,7 +117,7 @@ fn count_faulty(faulty: &[bool; 16], n: u8) -> u8
 pub fn crash_of(settings: Settings, head: Head, faulty: &mut [bool; 16], desk: DeskNo) -> Head
     requires { ⌜ settings .n ≤ 16 ⌝ }
     ensures { λ r. ⌜ ((p a l s x area : List ℕ) → Sized (held settings head (now (faulty .entry)) p a l s x) → head .waiting ≤ length area
-        → left settings r (now (faulty .exit)) p a l s x area ≡ stepAt (held settings head (now (faulty .entry)) p a l s x) area (rules.crash (desk .0))) ⌝ }
+        → left settings r (now (faulty .exit)) p a l s x area ≡ toldAt (held settings head (now (faulty .entry)) p a l s x) area (rules.crash (desk .0))) ⌝ }
 {
     if settings.n <= desk.0 {
         return answered(4, head);
@@ -146,7 +144,7 @@ pub fn reset_by(
     requires { ⌜ settings .n ≤ 16 ⌝ }
     ensures { λ r. ⌜ ((l s x area : List ℕ) → Sized (held settings head (now (faulty .entry)) (now (pass .entry)) (now (accept .entry)) l s x) → head .waiting ≤ length area
         → left settings r (now (faulty .entry)) (now (pass .exit)) (now (accept .exit)) l s x area
-        ≡ stepAt (held settings head (now (faulty .entry)) (now (pass .entry)) (now (accept .entry)) l s x) area (rules.resetTimers (desk .0))) ⌝ }
+        ≡ toldAt (held settings head (now (faulty .entry)) (now (pass .entry)) (now (accept .entry)) l s x) area (rules.resetTimers (desk .0))) ⌝ }
 {
     if settings.n <= desk.0 {
         return answered(4, head);

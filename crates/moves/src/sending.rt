@@ -13,7 +13,7 @@ ghost use Prim.Native.Nat.{ℕ};
 ghost use lib.ListN.{length};
 ghost use Rattle.rules.specs.Rules as rules;
 ghost use Rattle.floors.specs.Bridge.{Sized};
-ghost use Rattle.moves.specs.Moves.{Ready, held, left, stepAt};
+ghost use Rattle.moves.specs.Moves.{Ready, held, left, toldAt};
 
 pub fn announce_by(
     settings: Settings,
@@ -26,7 +26,7 @@ pub fn announce_by(
     requires { ⌜ Ready settings head (length (now area)) ⌝ }
     ensures { λ r. ⌜ ((f : List Bool) (p a l x : List ℕ) → Sized (held settings head f p a l (now (sent .entry)) x)
         → left settings r f p a l (now (sent .exit)) x (now (area .exit))
-        ≡ stepAt (held settings head f p a l (now (sent .entry)) x) (now (area .entry)) (rules.announce (desk .0) (entry .0))) ⌝ }
+        ≡ toldAt (held settings head f p a l (now (sent .entry)) x) (now (area .entry)) (rules.announce (desk .0) (entry .0))) ⌝ }
 {
     if settings.n <= desk.0 {
         return answered(4, head);
@@ -48,6 +48,7 @@ pub fn announce_by(
     sent[i] = marks.with(entry).0;
     Head {
         answer: 0,
+        new: false,
         clock: head.clock,
         waiting: count,
     }
@@ -67,7 +68,7 @@ pub fn pass_on_by(
 ) -> Head
     requires { ⌜ Ready settings head (length (now area)) × Sized (held settings head (now faulty) (now pass) (now accept) (now listed) (now sent) (now received)) ⌝ }
     ensures { λ r. ⌜ left settings r (now (faulty .entry)) (now (pass .exit)) (now (accept .entry)) (now (listed .entry)) (now (sent .exit)) (now (received .entry)) (now (area .exit))
-        ≡ stepAt (held settings head (now (faulty .entry)) (now (pass .entry)) (now (accept .entry)) (now (listed .entry)) (now (sent .entry)) (now (received .entry))) (now (area .entry)) (rules.passOn (desk .0)) ⌝ }
+        ≡ toldAt (held settings head (now (faulty .entry)) (now (pass .entry)) (now (accept .entry)) (now (listed .entry)) (now (sent .entry)) (now (received .entry))) (now (area .entry)) (rules.passOn (desk .0)) ⌝ }
 {
     if settings.n <= desk.0 {
         return answered(4, head);
@@ -86,6 +87,7 @@ pub fn pass_on_by(
     sent[i] = after.sent.0;
     Head {
         answer: 0,
+        new: false,
         clock: head.clock,
         waiting: total,
     }
@@ -104,7 +106,7 @@ pub fn false_note_by(
     requires { ⌜ Ready settings head (length (now area)) ⌝ }
     ensures { λ r. ⌜ ((p a l s x : List ℕ) → Sized (held settings head (now (faulty .entry)) p a l s x)
         → left settings r (now (faulty .entry)) p a l s x (now (area .exit))
-        ≡ stepAt (held settings head (now (faulty .entry)) p a l s x) (now (area .entry)) (rules.falseNote (desk .0) (destination .0) (entry .0) timeout)) ⌝ }
+        ≡ toldAt (held settings head (now (faulty .entry)) p a l s x) (now (area .entry)) (rules.falseNote (desk .0) (destination .0) (entry .0) timeout)) ⌝ }
 {
     if settings.n <= desk.0 {
         return answered(4, head);
@@ -133,6 +135,7 @@ pub fn false_note_by(
     }
     Head {
         answer: 0,
+        new: false,
         clock: head.clock,
         waiting: count,
     }

@@ -1,5 +1,7 @@
 -- `moves::desks::hear` meets its contract. Assumes nothing.
 use Rattle.moves.proofs.DeskMoves.{heard}
+use mathlib.Core.Path.{ap}
+use mathlib.Core.Bool.{not}
 use borrow.Author.Needs.{needs}
 use Rattle.moves.proofs.desks.hear.Statement.{statement}
 use Rattle.moves.proofs.desks.hear.Tie as tie
@@ -16,11 +18,14 @@ cast-at-2 c = search needs
 add-at : tie.Need-add-at
 add-at c = search needs
 
-mul-t7 : tie.Need-mul-t7
-mul-t7 c = search needs
+mul-t8 : tie.Need-mul-t8
+mul-t8 c = search needs
 
-element-copy-out-t12 : tie.Need-element-copy-out-t12
-element-copy-out-t12 c = search needs
+element-copy-out-t13 : tie.Need-element-copy-out-t13
+element-copy-out-t13 c = search needs
+
+has-requires : tie.Need-has-requires
+has-requires c κs = search needs
 
 with-requires : tie.Need-with-requires
 with-requires c κs = search needs
@@ -32,7 +37,7 @@ element-write-received : tie.Need-element-write-received
 element-write-received c = search needs
 
 returns : tie.Need-returns
-returns c = rw (heard _ _ _ (c .with .ensures) (c .before .before .before .before .pre .2))
+returns c = (rw (heard _ _ _ (c .with .ensures) (c .before .before .before .before .before .pre .2)), ap not (c .before .has .ensures))
 
 pub hear-spec : {M : Type 1} → statement M
 hear-spec =
@@ -42,8 +47,9 @@ hear-spec =
     mul-at
     cast-at-2
     add-at
-    mul-t7
-    element-copy-out-t12
+    mul-t8
+    element-copy-out-t13
+    has-requires
     with-requires
     mul-received
     element-write-received
