@@ -1,15 +1,17 @@
 -- The call for one action: the move that a kind names, the checks that calls share, and its ways out. Assumes nothing.
-use mathlib.Core.Path.{_≡_, refl, sym, ap, _∙_}
+use mathlib.Core.Path.{_≡_, refl, sym, ap, _∙_, subst}
 use mathlib.Core.Bool.{Bool, true, false, not}
 use mathlib.Core.List.{List, [], _∷_, _++_, append-nil}
-use mathlib.Core.Logic.{_≢_}
-use Prim.Native.Nat.{ℕ, _≤_}
+use mathlib.Core.Logic.{_≢_, ⊎-elim}
+use Prim.Native.Nat.{ℕ, _+_, _≤_}
 use native.Mathlib.Omega.{arith}
 use lib.Dec.{eqb}
 use lib.ListN.{length, getD, List·getD-eq-default}
-use borrow.Author.Tests.{eq-eqb, ne-eqb}
-use Rattle.sets.proofs.Tests.{was-true, was-false}
+use borrow.Author.Tests.{eq-eqb, ne-eqb, eqb-true, eqb-false}
+use Rattle.sets.specs.Counting.{bit}
+use Rattle.sets.proofs.Tests.{was-true, was-false, decided}
 use Rattle.rules.specs.Rules.{Move, Check, unknown, answer, firstOf, mostNotes}
+use Rattle.rules.specs.NewSources.{sizes}
 use Rattle.rules.proofs.CheckLaws.{first-none, first-fails, first-passes, not-zero}
 use Rattle.rules.proofs.Clauses.{answer-unknown}
 use Rattle.records.specs.Records.{wellFormed}
@@ -20,9 +22,9 @@ use Rattle.floors.specs.declared.Floor.{Floor}
 use Rattle.shapes.specs.Shape.{inShapeAt}
 use Rattle.shapes.proofs.ShapeLaws.{shape-holds, holds-shape}
 use Rattle.moves.specs.declared.head.Head.{Head}
-use Rattle.moves.specs.Moves.{Outcome, refusal, stepAt, held, left}
-use Rattle.moves.proofs.Steps.{step-refused, refused}
-use Rattle.moves.proofs.StepLaws.{Fit}
+use Rattle.moves.specs.Moves.{refusal, Told, noneNew, toldAt, held, left, answering}
+use Rattle.moves.proofs.Steps.{told-refused, refused}
+use Rattle.moves.proofs.StepLaws.{Fit, told-added}
 use Rattle.actions.specs.Actions.{ofKind, moveOf, wrongArea, outOfShape, callChecks, acted}
 
 -- ---- the move that a kind names
@@ -40,11 +42,11 @@ unfolding moveOf
 malformed x w = rw w
 
 -- a step, by the move that the action names
-pub by-move : (o : Outcome) (fl : Floor) (area : List ℕ) (x : Action) (m : Move) → moveOf x ≡ m → o ≡ stepAt fl area m → o ≡ stepAt fl area (moveOf x)
-by-move o fl area x m e s = rw e s
+pub by-move : (t : Told) (fl : Floor) (area : List ℕ) (x : Action) (m : Move) → moveOf x ≡ m → t ≡ toldAt fl area m → t ≡ toldAt fl area (moveOf x)
+by-move t fl area x m e s = rw e s
 
-pub no-kind : (k : Settings) (h r : Head) (f : List Bool) (p a l s x area : List ℕ) → r ≡ record { answer = 3; clock = h .clock; waiting = h .waiting }
-    → left k r f p a l s x area ≡ stepAt (held k h f p a l s x) area unknown
+pub no-kind : (k : Settings) (h r : Head) (f : List Bool) (p a l s x area : List ℕ) → r ≡ answering 3 h
+    → left k r f p a l s x area ≡ toldAt (held k h f p a l s x) area unknown
 no-kind k h r f p a l s x area q = refused k h r f p a l s x area unknown 3 refl (answer-unknown (stateOf (held k h f p a l s x) area)) q
 
 -- ---- a floor in shape is one that a step may be made on
@@ -81,6 +83,15 @@ module _ (fl : Floor) (area : List ℕ) (cs : List Check) where
     unfolding callChecks
     call-passes y = area-passes area (outOfShape fl area ∷ cs) long ∙ first-passes 1 (not (inShapeAt fl area)) cs (ap not (was-true s y))
 
+-- a call is refused with 15, or with 1, or the floor is one that a step may be made on
+pub call-either : {R : Type 0} (fl : Floor) (area : List ℕ) → Sized fl → (length area ≢ mostNotes → R) → (length area ≡ mostNotes → inShapeAt fl area ≡ false → R) → (Fit fl area → R) → R
+call-either fl area sized short unshaped fits =
+    ⊎-elim
+    (λ e. let long : length area ≡ mostNotes = eqb-true (length area) mostNotes e in
+    ⊎-elim (λ s. fits (fit-start fl area s sized long)) (unshaped long) (decided (inShapeAt fl area)))
+    (λ e. short (eqb-false (length area) mostNotes e))
+    (decided (eqb (length area) mostNotes))
+
 -- ---- one action
 
 module _ (fl : Floor) (area : List ℕ) (x : Action) where
@@ -88,23 +99,41 @@ module _ (fl : Floor) (area : List ℕ) (x : Action) where
   alone : firstOf (callChecks fl area) ≡ firstOf (callChecks fl area ++ [])
   alone = ap firstOf (sym (append-nil (callChecks fl area)))
 
-  call-refused : (number : ℕ) → eqb number 0 ≡ false → firstOf (callChecks fl area ++ []) ≡ number → refusal number fl area ≡ acted fl area x
+  call-refused : (number : ℕ) → eqb number 0 ≡ false → firstOf (callChecks fl area ++ []) ≡ number → noneNew (refusal number fl area) ≡ acted fl area x
   unfolding acted
   call-refused number some e = rw (alone ∙ e, some)
 
-  pub act-15 : length area ≢ mostNotes → record { answer = 15; floor = fl; area = area } ≡ acted fl area x
+  pub act-15 : length area ≢ mostNotes → noneNew (refusal 15 fl area) ≡ acted fl area x
   act-15 h = call-refused 15 refl (call-15 fl area [] h)
 
   module _ (long : length area ≡ mostNotes) (fits : Bool) (s : fits ≡ inShapeAt fl area) where
-    pub act-1 : not fits ≡ true → record { answer = 1; floor = fl; area = area } ≡ acted fl area x
+    pub act-1 : not fits ≡ true → noneNew (refusal 1 fl area) ≡ acted fl area x
     act-1 y = call-refused 1 refl (call-1 fl area [] long fits s y)
 
     module _ (y : not fits ≡ false) where
-      pub act-step : (o : Outcome) → o ≡ stepAt fl area (moveOf x) → o ≡ acted fl area x
+      pub act-step : (t : Told) → t ≡ toldAt fl area (moveOf x) → t ≡ acted fl area x
       unfolding acted
-      act-step o e = rw (eq-eqb (firstOf (callChecks fl area)) 0 (alone ∙ call-passes fl area [] long fits s y ∙ first-none)) e
+      act-step t e = rw (eq-eqb (firstOf (callChecks fl area)) 0 (alone ∙ call-passes fl area [] long fits s y ∙ first-none)) e
 
-      pub act-3 : (b : Bool) → b ≡ wellFormed x → not b ≡ true → record { answer = 3; floor = fl; area = area } ≡ acted fl area x
+      pub act-3 : (b : Bool) → b ≡ wellFormed x → not b ≡ true → noneNew (refusal 3 fl area) ≡ acted fl area x
       act-3 b w z =
-          act-step (refusal 3 fl area)
-          (step-refused fl area (moveOf x) 3 (not-zero 3 refl) (ap (answer (stateOf fl area)) (malformed x (was-false w z)) ∙ answer-unknown (stateOf fl area)))
+          act-step (noneNew (refusal 3 fl area))
+          (told-refused fl area (moveOf x) 3 (not-zero 3 refl) (ap (answer (stateOf fl area)) (malformed x (was-false w z)) ∙ answer-unknown (stateOf fl area)))
+
+  pub act-fits : Fit fl area → toldAt fl area (moveOf x) ≡ acted fl area x
+  act-fits fit = act-step (fit .exact) true (sym (fit-shape fl area fit)) refl (toldAt fl area (moveOf x)) refl
+
+  -- what is told of an action is the source that all sets together have grown by
+  abbrev Added : Told → Type 0
+  Added t = sizes (t .out .floor .received) ≡ sizes (fl .received) + bit (t .new)
+
+  acted-added : Sized fl → Added (acted fl area x)
+  acted-added sized =
+      call-either fl area sized (λ short. refuses 15 (act-15 short)) (λ long s. refuses 1 (act-1 long false (sym s) refl))
+      (λ fit. subst Added (act-fits fit) (told-added fl area (moveOf x) fit))
+    where
+      refuses : (number : ℕ) → noneNew (refusal number fl area) ≡ acted fl area x → Added (acted fl area x)
+      refuses number e = subst Added e (omega arith)
+
+  pub act-added : Sized fl → (t : Told) → t ≡ acted fl area x → (t ≡ acted fl area x) × Added t
+  act-added sized t e = (e, subst Added (sym e) (acted-added sized))

@@ -1,13 +1,13 @@
 -- An opening, by its ways out; and what a floor that was opened is. Assumes nothing.
 use mathlib.Core.Path.{_≡_, refl, sym, ap, _∙_, subst}
-use mathlib.Core.Bool.{Bool, true, false, not, cond, _&&_}
+use mathlib.Core.Bool.{Bool, true, false, not, _&&_}
 use mathlib.Core.List.{List, [], _∷_}
 use mathlib.Core.Logic.{_≢_}
 use Prim.Native.Nat.{ℕ, _≤_, zero-le}
 use lib.Dec.{eqb}
 use lib.ListN.{length, replicate, length-replicate}
-use borrow.Author.Tests.{eq-eqb, eqb-true, not-false}
-use Rattle.sets.proofs.Tests.{was-true, was-false, cond-true}
+use borrow.Author.Tests.{eq-eqb, ne-eqb, eqb-true, not-false}
+use Rattle.sets.proofs.Tests.{was-true, was-false, cond-true, cond-both}
 use Rattle.rules.specs.Rules.{firstOf, _when_, outside, mostNotes, withinLimits, fresh}
 use Rattle.rules.proofs.CheckLaws.{first-none, first-fails, first-passes, zero-passed, not-zero}
 use Rattle.rules.proofs.Effects.{fresh-whole, fresh-notes}
@@ -57,28 +57,23 @@ module _ (area : List ℕ) (x : Action) where
 
 -- ---- what is opened
 
+-- it answers what its checks say
+opened-answer : (area : List ℕ) (x : Action) → opened area x .answer ≡ firstOf (openingChecks area x)
+unfolding opened
+opened-answer area x =
+    let number = firstOf (openingChecks area x) in
+    cond-both (λ (o : Outcome). o .answer ≡ number) (eqb number 0) (freshOutcome area x) (refusal number noFloor area) (λ e. sym (eqb-true number 0 e)) (λ e. refl)
+
 -- a refused opening gives no floor
 pub opened-none : (area : List ℕ) (x : Action) → (opened area x .answer ≡ 0 → ⊥) → opened area x .floor ≡ noFloor
-unfolding opened
-opened-none area x = go (eqb (firstOf (openingChecks area x)) 0) refl
-  where
-    go : (b : Bool) → eqb (firstOf (openingChecks area x)) 0 ≡ b
-        → let o = cond b (freshOutcome area x) (refusal (firstOf (openingChecks area x)) noFloor area) in
-        (o .answer ≡ 0 → ⊥) → o .floor ≡ noFloor
-    go true q z = absurd (z refl)
-    go false q z = refl
+opened-none area x z =
+    let number = firstOf (openingChecks area x) in
+    ap (λ (o : Outcome). o .floor) (sym (open-refused area x number (ne-eqb number 0 (λ e. z (opened-answer area x ∙ e))) refl))
 
 -- a floor that was opened is in shape
 module _ (area : List ℕ) (x : Action) (e : opened area x .answer ≡ 0) where
   passed : firstOf (openingChecks area x) ≡ 0
-  unfolding opened
-  passed = go (eqb (firstOf (openingChecks area x)) 0) refl e
-    where
-      go : (b : Bool) → eqb (firstOf (openingChecks area x)) 0 ≡ b
-          → cond b (freshOutcome area x) (refusal (firstOf (openingChecks area x)) noFloor area) .answer ≡ 0
-          → firstOf (openingChecks area x) ≡ 0
-      go true q z = eqb-true (firstOf (openingChecks area x)) 0 q
-      go false q z = z
+  passed = sym (opened-answer area x) ∙ e
 
   within : (not (eqb (length area) mostNotes) ≡ false) × (not (withinLimits (settingsOf (settingsIn x))) ≡ false)
   unfolding openingChecks

@@ -11,7 +11,7 @@ use Rattle.floors.specs.Bridge.{settingsOf, floorOf, noFloor}
 use Rattle.floors.specs.declared.Settings.{Settings}
 use Rattle.floors.specs.declared.Floor.{Floor}
 use Rattle.shapes.specs.Shape.{inShapeAt}
-use Rattle.moves.specs.Moves.{Outcome, refusal, stepAt}
+use Rattle.moves.specs.Moves.{Outcome, refusal, Told, noneNew, toldAt}
 
 -- ---- the move that an action asks for
 
@@ -47,10 +47,10 @@ unfoldable pub callChecks : Floor → List ℕ → List Check
 callChecks fl area = wrongArea area ∷ outOfShape fl area ∷ []
 
 -- ONE ACTION
-unfoldable pub acted : Floor → List ℕ → Action → Outcome
+unfoldable pub acted : Floor → List ℕ → Action → Told
 acted fl area x =
     let number = firstOf (callChecks fl area) in
-    cond (eqb number 0) (stepAt fl area (moveOf x)) (refusal number fl area)
+    cond (eqb number 0) (toldAt fl area (moveOf x)) (noneNew (refusal number fl area))
 
 -- "opening: desk = n, other = f, entry = U, a = M, b = P, c = A"
 abbrev pub settingsIn : Action → Settings

@@ -6,25 +6,33 @@ use floors::Settings;
 use moves::head::Head;
 use records::Action;
 ghost use mathlib.Core.Path.{_≡_};
+ghost use Prim.Native.Nat.{_+_};
+ghost use Rattle.sets.specs.Counting.{bit};
+ghost use Rattle.rules.specs.NewSources.{sizes};
+ghost use Rattle.moves.specs.Moves.{noneNew};
 ghost use Rattle.actions.specs.Actions.{acted, opened};
 
+// The number, whether a received note added a source, and the floor.
 pub struct Acted {
     pub answer: u8,
+    pub new: bool,
     pub floor: Floor,
 }
 
 pub fn open(opening: Action, area: &mut [u64]) -> Acted
-    ensures { λ r. ⌜ record { answer = r .answer; floor = r .floor; area = now (area .exit) } ≡ opened (now (area .entry)) opening ⌝ }
+    ensures { λ r. ⌜ record { new = r .new; out = record { answer = r .answer; floor = r .floor; area = now (area .exit) } } ≡ noneNew (opened (now (area .entry)) opening) ⌝ }
 {
     if area.len() != Settings::NOTES {
         return Acted {
             answer: 15,
+            new: false,
             floor: Floor::none(),
         };
     }
     if !(opening.well_formed() & (opening.kind == 8)) {
         return Acted {
             answer: 3,
+            new: false,
             floor: Floor::none(),
         };
     }
@@ -39,22 +47,26 @@ pub fn open(opening: Action, area: &mut [u64]) -> Acted
     if !settings.within_limits() {
         return Acted {
             answer: 2,
+            new: false,
             floor: Floor::none(),
         };
     }
     notes::clear(area);
     Acted {
         answer: 0,
+        new: false,
         floor: Floor::fresh(settings),
     }
 }
 
 pub fn act(floor: Floor, area: &mut [u64], action: Action) -> Acted
-    ensures { λ r. ⌜ record { answer = r .answer; floor = r .floor; area = now (area .exit) } ≡ acted floor (now (area .entry)) action ⌝ }
+    ensures { λ r. ⌜ (record { new = r .new; out = record { answer = r .answer; floor = r .floor; area = now (area .exit) } } ≡ acted floor (now (area .entry)) action)
+        × (sizes (r .floor .received) ≡ sizes (floor .received) + bit (r .new)) ⌝ }
 {
     if area.len() != Settings::NOTES {
         return Acted {
             answer: 15,
+            new: false,
             floor: floor,
         };
     }
@@ -80,17 +92,20 @@ pub fn act(floor: Floor, area: &mut [u64], action: Action) -> Acted
     if !fits {
         return Acted {
             answer: 1,
+            new: false,
             floor: floor,
         };
     }
     if !action.well_formed() {
         return Acted {
             answer: 3,
+            new: false,
             floor: floor,
         };
     }
     let head = Head {
         answer: 0,
+        new: false,
         clock: floor.clock,
         waiting: floor.waiting,
     };
@@ -108,6 +123,7 @@ pub fn act(floor: Floor, area: &mut [u64], action: Action) -> Acted
     );
     Acted {
         answer: after.answer,
+        new: after.new,
         floor: Floor {
             settings: settings,
             clock: after.clock,

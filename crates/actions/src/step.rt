@@ -15,7 +15,7 @@ ghost use mathlib.Core.Path.{_≡_};
 ghost use mathlib.Core.Bool.{true};
 ghost use lib.ListN.{length};
 ghost use Rattle.records.specs.Records.{wellFormed};
-ghost use Rattle.moves.specs.Moves.{Ready, held, left, stepAt};
+ghost use Rattle.moves.specs.Moves.{Ready, held, left, toldAt};
 ghost use Rattle.actions.specs.Actions.{moveOf};
 
 // Lending an array as a slice tells its length; nothing is done.
@@ -35,7 +35,7 @@ pub fn step(
 ) -> Head
     requires { ⌜ Ready settings head (length (now area)) × (wellFormed action ≡ true) ⌝ }
     ensures { λ r. ⌜ left settings r (now (faulty .exit)) (now (pass .exit)) (now (accept .exit)) (now (listed .exit)) (now (sent .exit)) (now (received .exit)) (now (area .exit))
-        ≡ stepAt (held settings head (now (faulty .entry)) (now (pass .entry)) (now (accept .entry)) (now (listed .entry)) (now (sent .entry)) (now (received .entry))) (now (area .entry)) (moveOf action) ⌝ }
+        ≡ toldAt (held settings head (now (faulty .entry)) (now (pass .entry)) (now (accept .entry)) (now (listed .entry)) (now (sent .entry)) (now (received .entry))) (now (area .entry)) (moveOf action) ⌝ }
 {
     lengths(faulty, pass, accept, listed, sent, received);
     let kind = action.kind;
