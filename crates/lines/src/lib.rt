@@ -27,11 +27,12 @@ ghost use Rattle.lines.specs.Lines.{
 
 // A whole sequence as a program runs it: above 64 KiB it is refused.
 pub fn run_input(area: &mut [u64], input: &[u8]) -> Ran
-    ensures { λ r. ⌜ record { count = r .count; out = record { answer = r .answer; floor = r .floor; area = now (area .exit) } } ≡ inputWent (now (area .entry)) (now (input .entry)) ⌝ }
+    ensures { λ r. ⌜ record { count = r .count; total = r .total; out = record { answer = r .answer; floor = r .floor; area = now (area .exit) } } ≡ inputWent (now (area .entry)) (now (input .entry)) ⌝ }
 {
     if 65536 < input.len() {
         return Ran {
             count: 0,
+            total: 0,
             answer: 16,
             floor: Floor::none(),
         };

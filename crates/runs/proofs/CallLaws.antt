@@ -14,17 +14,18 @@ use Rattle.sets.proofs.Tests.{decided, or-none}
 use Rattle.rules.specs.Rules.{firstOf, _when_, mostNotes}
 use Rattle.rules.proofs.CheckLaws.{first-none, first-fails, first-passes}
 use Rattle.records.specs.Records.{wellFormed, actionOf, readOf, zeros}
+use Rattle.records.specs.declared.Action.{Action}
 use Rattle.records.specs.declared.Reading.{Reading}
 use Rattle.records.proofs.RecordLaws.{read-good, read-zeros}
 use Rattle.floors.specs.Bridge.{noFloor}
 use Rattle.floors.specs.declared.Floor.{Floor}
 use Rattle.shapes.specs.Shape.{inShapeAt}
-use Rattle.moves.specs.Moves.{Outcome}
+use Rattle.moves.specs.Moves.{Outcome, refusal}
 use Rattle.moves.proofs.StepLaws.{Fit}
 use Rattle.actions.specs.Actions.{opened}
 use Rattle.actions.proofs.Calls.{fit-shape, area-fails, area-passes, call-15, call-1, call-passes}
-use Rattle.actions.proofs.Openings.{open-3, opened-fit}
-use Rattle.runs.specs.Runs.{Went, wentFrom, stopped, runChecks, went, restOf, wholeChecks, afterOpening, wholeWent}
+use Rattle.actions.proofs.Openings.{open-3, opened-none, opened-fit}
+use Rattle.runs.specs.Runs.{Went, wentFrom, unbegun, stopped, runChecks, went, restOf, wholeChecks, afterOpening, wholeWent}
 use Rattle.runs.proofs.RunLaws.{record-good}
 
 -- ---- a run
@@ -51,11 +52,11 @@ module _ (fl : Floor) (area bytes : List ℕ) (most : ℕ) where
       pub run-16 : (length bytes % 16 ≡ 0 → ⊥) → stopped 16 fl area ≡ went fl area bytes most
       run-16 h = run-refused 16 refl (shaped ∙ first-fails 16 (not (eqb (length bytes % 16) 0)) [] (ap not (ne-eqb (length bytes % 16) 0 h)))
 
-      pub run-0 : length bytes % 16 ≡ 0 → (limit : ℕ) → limit ≡ min most (length bytes / 16) → (r : Went) → r ≡ wentFrom limit fl area bytes 0 → r ≡ went fl area bytes most
+      pub run-0 : length bytes % 16 ≡ 0 → (limit : ℕ) → limit ≡ min most (length bytes / 16) → (r : Went) → r ≡ wentFrom limit fl area bytes 0 0 → r ≡ went fl area bytes most
       unfolding went
       run-0 h limit l r e =
           rw (eq-eqb (firstOf (runChecks fl area bytes)) 0 (shaped ∙ first-passes 16 (not (eqb (length bytes % 16) 0)) [] (ap not (eq-eqb (length bytes % 16) 0 h)) ∙ first-none))
-          (e ∙ ap (λ (n : ℕ). wentFrom n fl area bytes 0) l)
+          (e ∙ ap (λ (n : ℕ). wentFrom n fl area bytes 0 0) l)
 
 -- so many records are there
 pub limit-fits : (bytes : List ℕ) (limit most : ℕ) → limit ≡ min most (length bytes / 16) → 16 * limit ≤ length bytes
@@ -134,7 +135,7 @@ module _ (area bytes : List ℕ) where
 
       -- o is what the opening left
       module _ (o : Outcome) (is : o ≡ opened area (actionOf (take 16 bytes))) where
-        pub whole-stops : (o .answer ≡ 0 → ⊥) → record { count = 0; out = o } ≡ wholeWent area bytes
+        pub whole-stops : (o .answer ≡ 0 → ⊥) → unbegun o ≡ wholeWent area bytes
         unfolding afterOpening
         whole-stops z = sym (first ∙ rw (← is, ne-eqb (o .answer) 0 z))
 
@@ -148,6 +149,39 @@ module _ (area bytes : List ℕ) where
             let (more, even) = records-there in
             (fit-shape (o .floor) (o .area) fit, fit .exact, rw (tail bytes 16 more, length-drop 16 bytes) (omega arith))
 
-        pub whole-runs : o .answer ≡ 0 → (r : Went) → r ≡ wentFrom (length bytes / 16 - 1) (o .floor) (o .area) (take (length bytes - 16) (drop 16 bytes)) 0 → r ≡ wholeWent area bytes
+        pub whole-runs : o .answer ≡ 0 → (r : Went) → r ≡ wentFrom (length bytes / 16 - 1) (o .floor) (o .area) (take (length bytes - 16) (drop 16 bytes)) 0 0 → r ≡ wholeWent area bytes
         unfolding afterOpening
-        whole-runs z r e = sym (first ∙ rw (← is, eq-eqb (o .answer) 0 z) (sym (e ∙ ap (λ (b : List ℕ). wentFrom (length bytes / 16 - 1) (o .floor) (o .area) b 0) (tail bytes 16 (records-there .0)))))
+        whole-runs z r e = sym (first ∙ rw (← is, eq-eqb (o .answer) 0 z) (sym (e ∙ ap (λ (b : List ℕ). wentFrom (length bytes / 16 - 1) (o .floor) (o .area) b 0 0) (tail bytes 16 (records-there .0)))))
+
+  -- what holds where there is no floor, and of the run after an opening, holds of a whole sequence
+  pub whole-either : (Q : Went → Type 0)
+      → ((o : Outcome) → o .floor ≡ noFloor → Q (unbegun o))
+      → (let o = opened area (actionOf (take 16 bytes)) in o .answer ≡ 0 → Q (wentFrom (length bytes / 16 - 1) (o .floor) (o .area) (drop 16 bytes) 0 0))
+      → Q (wholeWent area bytes)
+  whole-either Q none ran = ⊎-elim (λ l. long (eqb-true (length area) mostNotes l)) (λ l. refused 15 (whole-15 (eqb-false (length area) mostNotes l) noFloor refl)) (decided (eqb (length area) mostNotes))
+    where
+      x : Action
+      x = actionOf (take 16 bytes)
+
+      o : Outcome
+      o = opened area x
+
+      carried : List ℕ → Went
+      carried part = wentFrom (length bytes / 16 - 1) (o .floor) (o .area) part 0 0
+
+      ragged : Bool
+      ragged = eqb (length bytes) 0 || not (eqb (length bytes % 16) 0)
+
+      refused : (number : ℕ) → stopped number noFloor area ≡ wholeWent area bytes → Q (wholeWent area bytes)
+      refused number e = subst Q e (none (refusal number noFloor area) refl)
+
+      read : length area ≡ mostNotes → ragged ≡ false → Q (wholeWent area bytes)
+      read l h =
+          ⊎-elim
+          (λ e. let z : o .answer ≡ 0 = eqb-true (o .answer) 0 e in
+          subst Q (whole-runs l h o refl z (carried (drop 16 bytes)) (ap carried (sym (tail bytes 16 (records-there l h .0))))) (ran z))
+          (λ e. let z : o .answer ≢ 0 = eqb-false (o .answer) 0 e in subst Q (whole-stops l h o refl z) (none o (opened-none area x z)))
+          (decided (eqb (o .answer) 0))
+
+      long : length area ≡ mostNotes → Q (wholeWent area bytes)
+      long l = ⊎-elim (λ h. refused 16 (whole-16 l h noFloor refl)) (read l) (decided ragged)

@@ -1,6 +1,6 @@
 -- A run record by record: what was read, and what is left of the run after it. Assumes nothing.
 use mathlib.Core.Path.{_≡_, refl, sym, ap, _∙_}
-use mathlib.Core.Bool.{Bool, true}
+use mathlib.Core.Bool.{Bool, true, false}
 use mathlib.Core.Logic.{⊎-elim}
 use mathlib.Core.List.{List}
 use Prim.Native.Nat.{ℕ, suc, _+_, _-_, _*_, _≤_, _<_, zero-le}
@@ -9,7 +9,9 @@ use native.Mathlib.Omega.{arith}
 use lib.ListN.{length, take, drop, length-drop}
 use lib.Seq.{length-take-le}
 use borrow.Author.Tests.{eq-eqb, ne-eqb}
+use Rattle.sets.specs.Counting.{bit}
 use Rattle.sets.proofs.Tests.{decided}
+use Rattle.sets.proofs.CountLaws.{bit-le}
 use Rattle.rules.specs.Rules.{unknown, answer}
 use Rattle.floors.specs.Bridge.{stateOf}
 use Rattle.floors.specs.declared.Settings.{Settings}
@@ -20,8 +22,8 @@ use Rattle.records.specs.declared.Reading.{Reading}
 use Rattle.records.proofs.RecordLaws.{read-zero, read-good}
 use Rattle.actions.proofs.Calls.{malformed}
 use Rattle.moves.specs.declared.head.Head.{Head}
-use Rattle.moves.specs.Moves.{Outcome, stepAt, held, left, Ready}
-use Rattle.moves.proofs.StepLaws.{Fit, fit-ready, step-answer, step-fit, step-long}
+use Rattle.moves.specs.Moves.{Outcome, stepAt, Told, toldAt, held, left, Ready}
+use Rattle.moves.proofs.StepLaws.{Fit, fit-ready, told-out, step-answer, step-fit, step-long}
 use Rattle.actions.specs.Actions.{moveOf}
 use Rattle.runs.specs.Runs.{moveAt, Went, wentFrom}
 
@@ -38,8 +40,8 @@ module _ (bytes : List ℕ) (r : Reading) (is : r ≡ readOf bytes) where
   record-bad long z = ⊎-elim (λ formed. absurd (z (ap (λ (y : Reading). y .answer) (is ∙ sym (read-good bytes long formed))))) (malformed (actionOf bytes)) (decided (wellFormed (actionOf bytes)))
 
 -- a step with the move that the record names
-pub by-record : (o : Outcome) (fl : Floor) (area : List ℕ) (x y : Action) → x ≡ y → o ≡ stepAt fl area (moveOf x) → o ≡ stepAt fl area (moveOf y)
-by-record o fl area x y e s = s ∙ ap (λ (z : Action). stepAt fl area (moveOf z)) e
+pub by-record : (t : Told) (fl : Floor) (area : List ℕ) (x y : Action) → x ≡ y → t ≡ toldAt fl area (moveOf x) → t ≡ toldAt fl area (moveOf y)
+by-record t fl area x y e s = s ∙ ap (λ (z : Action). toldAt fl area (moveOf z)) e
 
 -- ---- record k of a sequence, lent as the part from 16 × k
 
@@ -52,71 +54,80 @@ part-long bytes k h = ap length (part-is bytes k) ∙ length-take-le 16 (drop (1
 -- ---- what is left of a run
 
 module _ (fl : Floor) (area bytes : List ℕ) where
-  pub went-none : (k : ℕ) → wentFrom 0 fl area bytes k ≡ record { count = k; out = record { answer = 0; floor = fl; area = area } }
+  pub went-none : (k total : ℕ) → wentFrom 0 fl area bytes k total ≡ record { count = k; total = total; out = record { answer = 0; floor = fl; area = area } }
   unfolding wentFrom
-  went-none k = refl
+  went-none k total = refl
 
-  module _ (n k : ℕ) (o : Outcome) (is : o ≡ stepAt fl area (moveAt bytes k)) where
-    pub went-next : o .answer ≡ 0 → wentFrom (suc n) fl area bytes k ≡ wentFrom n (o .floor) (o .area) bytes (k + 1)
+  module _ (n k total : ℕ) (t : Told) (is : t ≡ toldAt fl area (moveAt bytes k)) where
+    pub went-next : t .out .answer ≡ 0 → wentFrom (suc n) fl area bytes k total ≡ wentFrom n (t .out .floor) (t .out .area) bytes (k + 1) (total + bit (t .new))
     unfolding wentFrom
-    went-next z = rw (← is, eq-eqb (o .answer) 0 z, add-one)
+    went-next z = rw (← is, eq-eqb (t .out .answer) 0 z, add-one)
 
-    pub went-stop : (o .answer ≡ 0 → ⊥) → wentFrom (suc n) fl area bytes k ≡ record { count = k; out = o }
+    pub went-stop : (t .out .answer ≡ 0 → ⊥) → wentFrom (suc n) fl area bytes k total ≡ record { count = k; total = total; out = t .out }
     unfolding wentFrom
-    went-stop z = rw (← is, ne-eqb (o .answer) 0 z)
+    went-stop z = rw (← is, ne-eqb (t .out .answer) 0 z)
 
--- after `count` records of at most `limit`: the head and the arrays hold a floor that a step may be made on, and the run from there is what is left
-pub record Going (k : Settings) (limit : ℕ) (bytes : List ℕ) (all : Went) (h : Head) (f : List Bool) (p a l s x area : List ℕ) (count : ℕ) : Type 0 where
+-- after `count` records of at most `limit`, of which `total` were new: the head and the arrays hold a floor that a step may be made on, and
+-- the run from there is what is left
+pub record Going (k : Settings) (limit : ℕ) (bytes : List ℕ) (all : Went) (h : Head) (f : List Bool) (p a l s x area : List ℕ) (count total : ℕ) : Type 0 where
   pub upto : count ≤ limit
+  pub few : total ≤ count
   pub calm : h .answer ≡ 0
   pub fit : Fit (held k h f p a l s x) area
-  pub rest : all ≡ wentFrom (limit - count) (held k h f p a l s x) area bytes count
+  pub rest : all ≡ wentFrom (limit - count) (held k h f p a l s x) area bytes count total
 
 pub going-start : (fl : Floor) (area : List ℕ) (limit : ℕ) (bytes : List ℕ) → Fit fl area
-    → Going (fl .settings) limit bytes (wentFrom limit fl area bytes 0) (record { answer = 0; clock = fl .clock; waiting = fl .waiting }) (fl .faulty) (fl .pass) (fl .accept) (fl .listed) (fl .sent) (fl .received) area 0
+    → Going (fl .settings) limit bytes (wentFrom limit fl area bytes 0 0) (record { answer = 0; new = false; clock = fl .clock; waiting = fl .waiting }) (fl .faulty) (fl .pass) (fl .accept) (fl .listed) (fl .sent) (fl .received) area 0 0
 going-start fl area limit bytes fit =
-    record { upto = zero-le; calm = refl; fit = fit; rest = ap (λ (n : ℕ). wentFrom n fl area bytes 0) (let q : limit ≡ limit - 0 = omega arith in q) }
+    record { upto = zero-le; few = zero-le; calm = refl; fit = fit; rest = ap (λ (n : ℕ). wentFrom n fl area bytes 0 0) (let q : limit ≡ limit - 0 = omega arith in q) }
 
-module _ (k : Settings) (limit : ℕ) (bytes : List ℕ) (all : Went) (h : Head) (f : List Bool) (p a l s x area : List ℕ) (count : ℕ)
-    (g : Going k limit bytes all h f p a l s x area count) where
+module _ (k : Settings) (limit : ℕ) (bytes : List ℕ) (all : Went) (h : Head) (f : List Bool) (p a l s x area : List ℕ) (count total : ℕ)
+    (g : Going k limit bytes all h f p a l s x area count total) where
   abbrev now : Floor
   now = held k h f p a l s x
 
   pub going-ready : Ready k h (length area)
-  going-ready = fit-ready now area (h .answer) (g .fit)
+  going-ready = fit-ready now area (h .answer) (h .new) (g .fit)
 
-  pub going-end : limit ≤ count → record { count = count; out = left k h f p a l s x area } ≡ all
+  pub going-end : limit ≤ count → record { count = count; total = total; out = left k h f p a l s x area .out } ≡ all
   going-end e =
       let z : limit - count ≡ 0 = omega arith in
       sym
-      (g .rest ∙ ap (λ (n : ℕ). wentFrom n now area bytes count) z ∙ went-none now area bytes count
-      ∙ ap (λ (n : ℕ). let r : Went = record { count = count; out = record { answer = n; floor = now; area = area } } in r) (sym (g .calm)))
+      (g .rest ∙ ap (λ (n : ℕ). wentFrom n now area bytes count total) z ∙ went-none now area bytes count total
+      ∙ ap (λ (n : ℕ). let r : Went = record { count = count; total = total; out = record { answer = n; floor = now; area = area } } in r) (sym (g .calm)))
 
   -- the next record is stepped
   module _ (part : List ℕ) (is-part : part ≡ take 16 (drop (16 * count) bytes)) (r : Head) (f′ : List Bool) (p′ a′ l′ s′ x′ area′ : List ℕ) (more : count < limit)
-      (e : left k r f′ p′ a′ l′ s′ x′ area′ ≡ stepAt now area (moveOf (actionOf part))) where
-    is : left k r f′ p′ a′ l′ s′ x′ area′ ≡ stepAt now area (moveAt bytes count)
+      (e : left k r f′ p′ a′ l′ s′ x′ area′ ≡ toldAt now area (moveOf (actionOf part))) where
+    abbrev told : Told
+    told = left k r f′ p′ a′ l′ s′ x′ area′
+
+    is : told ≡ toldAt now area (moveAt bytes count)
     unfolding moveAt
-    is = e ∙ ap (λ (y : List ℕ). stepAt now area (moveOf (actionOf y))) is-part
+    is = e ∙ ap (λ (y : List ℕ). toldAt now area (moveOf (actionOf y))) is-part
+
+    is-left : told .out ≡ stepAt now area (moveAt bytes count)
+    is-left = ap (λ (t : Told). t .out) is ∙ told-out now area (moveAt bytes count)
 
     one-less : limit - count ≡ suc (limit - (count + 1))
     one-less = omega arith
 
     zero-answer : r .answer ≡ 0 → answer (stateOf now area) (moveAt bytes count) ≡ 0
-    zero-answer z = sym (step-answer now area (moveAt bytes count)) ∙ ap (λ (o : Outcome). o .answer) (sym is) ∙ z
+    zero-answer z = sym (step-answer now area (moveAt bytes count)) ∙ ap (λ (o : Outcome). o .answer) (sym is-left) ∙ z
 
-    pub going-next : r .answer ≡ 0 → Going k limit bytes all r f′ p′ a′ l′ s′ x′ area′ (count + 1)
+    pub going-next : r .answer ≡ 0 → Going k limit bytes all r f′ p′ a′ l′ s′ x′ area′ (count + 1) (total + bit (r .new))
     going-next z =
         record {
           upto = omega arith;
+          few = omega (arith, g .few, bit-le (r .new));
           calm = z;
-          fit = step-fit now area (moveAt bytes count) (g .fit) (zero-answer z) (left k r f′ p′ a′ l′ s′ x′ area′) is;
-          rest = g .rest ∙ ap (λ (n : ℕ). wentFrom n now area bytes count) one-less ∙ went-next now area bytes (limit - (count + 1)) count (left k r f′ p′ a′ l′ s′ x′ area′) is z;
+          fit = step-fit now area (moveAt bytes count) (g .fit) (zero-answer z) (told .out) is-left;
+          rest = g .rest ∙ ap (λ (n : ℕ). wentFrom n now area bytes count total) one-less ∙ went-next now area bytes (limit - (count + 1)) count total told is z;
         }
 
-    pub going-stop : (r .answer ≡ 0 → ⊥) → record { count = count; out = left k r f′ p′ a′ l′ s′ x′ area′ } ≡ all
+    pub going-stop : (r .answer ≡ 0 → ⊥) → record { count = count; total = total; out = told .out } ≡ all
     going-stop z =
-        sym (g .rest ∙ ap (λ (n : ℕ). wentFrom n now area bytes count) one-less ∙ went-stop now area bytes (limit - (count + 1)) count (left k r f′ p′ a′ l′ s′ x′ area′) is z)
+        sym (g .rest ∙ ap (λ (n : ℕ). wentFrom n now area bytes count total) one-less ∙ went-stop now area bytes (limit - (count + 1)) count total told is z)
 
     pub going-long : length area′ ≡ length area
-    going-long = ap (λ (o : Outcome). length (o .area)) is ∙ step-long now area (moveAt bytes count) (g .fit)
+    going-long = ap (λ (o : Outcome). length (o .area)) is-left ∙ step-long now area (moveAt bytes count) (g .fit)

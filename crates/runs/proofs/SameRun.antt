@@ -1,5 +1,5 @@
 -- The run of the records is the run of the rules: as many steps, the same last number, and the same state; and what those steps are. Assumes nothing.
-use mathlib.Core.Path.{_≡_, refl, sym, _∙_, subst}
+use mathlib.Core.Path.{_≡_, refl, sym, ap, _∙_, subst}
 use mathlib.Core.Bool.{true}
 use mathlib.Core.Logic.{⊎-elim}
 use mathlib.Core.List.{List, _∷_}
@@ -9,26 +9,29 @@ use native.Mathlib.Omega.{arith}
 use lib.Dec.{eqb}
 use lib.ListN.{length}
 use borrow.Author.Tests.{eqb-true, eqb-false}
+use Rattle.sets.specs.Counting.{bit}
 use Rattle.sets.proofs.Tests.{decided}
 use Rattle.rules.specs.Rules.{State, Move, answer, next}
-use Rattle.rules.specs.Running.{Run, run}
+use Rattle.rules.specs.NewSources.{isNew}
+use Rattle.rules.specs.Running.{Run, still, run}
 use Rattle.rules.proofs.RunningLaws.{run-none, run-end, run-next, run-stop}
 use Rattle.agreement.specs.View.{after}
 use Rattle.agreement.proofs.AfterLaws.{after-none, after-next}
 use Rattle.floors.specs.Bridge.{stateOf}
 use Rattle.floors.specs.declared.Floor.{Floor}
 use Rattle.shapes.specs.Shape.{inShapeAt}
-use Rattle.moves.specs.Moves.{Outcome, stepAt}
+use Rattle.moves.specs.Moves.{Outcome, stepAt, toldAt}
 use Rattle.moves.proofs.Steps.{step-refused}
-use Rattle.moves.proofs.StepLaws.{Fit, step-answer, step-fit, step-state}
+use Rattle.moves.proofs.StepLaws.{Fit, told-new, told-out, step-answer, step-fit, step-state}
 use Rattle.actions.proofs.Calls.{fit-shape}
 use Rattle.runs.specs.Runs.{moveAt, movesFrom, Went, wentFrom, went, stopped}
 use Rattle.runs.proofs.CallLaws.{run-0, run-16}
 use Rattle.runs.proofs.RunLaws.{went-none, went-next, went-stop}
 
--- w, counted from record k on, is the rules' run r, and leaves a floor that a step may be made on
-pub record Same (k : ℕ) (w : Went) (r : Run) : Type 0 where
+-- w, counted from record k on and with so many new before, is the rules' run r, and leaves a floor that a step may be made on
+pub record Same (k total : ℕ) (w : Went) (r : Run) : Type 0 where
   pub count : w .count ≡ k + r .count
+  pub totals : w .total ≡ total + r .total
   pub answer : w .out .answer ≡ r .answer
   pub state : stateOf (w .out .floor) (w .out .area) ≡ r .state
   pub fit : Fit (w .out .floor) (w .out .area)
@@ -36,11 +39,12 @@ pub record Same (k : ℕ) (w : Went) (r : Run) : Type 0 where
 -- ---- the two runs
 
 module _ (bytes : List ℕ) where
-  none-same : (fl : Floor) (area : List ℕ) (k : ℕ) → Fit fl area → Same k (record { count = k; out = record { answer = 0; floor = fl; area = area } }) (record { count = 0; answer = 0; state = stateOf fl area })
-  none-same fl area k fit = record { count = omega arith; answer = refl; state = refl; fit = fit }
+  none-same : (fl : Floor) (area : List ℕ) (k total : ℕ) → Fit fl area
+      → Same k total (record { count = k; total = total; out = record { answer = 0; floor = fl; area = area } }) (still 0 (stateOf fl area))
+  none-same fl area k total fit = record { count = omega arith; totals = omega arith; answer = refl; state = refl; fit = fit }
 
   -- one record more in front
-  module _ (fl : Floor) (area : List ℕ) (k n most : ℕ) (moves : List Move) (fit : Fit fl area) where
+  module _ (fl : Floor) (area : List ℕ) (k total n most : ℕ) (moves : List Move) (fit : Fit fl area) where
     abbrev s : State
     s = stateOf fl area
 
@@ -50,42 +54,53 @@ module _ (bytes : List ℕ) where
     abbrev o : Outcome
     o = stepAt fl area m
 
-    more-same : (z : answer s m ≡ 0) → Same (k + 1) (wentFrom n (o .floor) (o .area) bytes (k + 1)) (run most (stateOf (o .floor) (o .area)) moves)
-        → Same k (wentFrom (suc n) fl area bytes k) (run (suc most) s (m ∷ moves))
+    told-answer : toldAt fl area m .out .answer ≡ answer s m
+    told-answer = ap (λ (q : Outcome). q .answer) (told-out fl area m) ∙ step-answer fl area m
+
+    more-same : (z : answer s m ≡ 0) → Same (k + 1) (total + bit (isNew s m)) (wentFrom n (o .floor) (o .area) bytes (k + 1) (total + bit (isNew s m))) (run most (stateOf (o .floor) (o .area)) moves)
+        → Same k total (wentFrom (suc n) fl area bytes k total) (run (suc most) s (m ∷ moves))
     more-same z same =
-        rw (went-next fl area bytes n k o refl (step-answer fl area m ∙ z), run-next most s m moves z, ← step-state fl area m fit z o refl)
-        (record { count = omega (arith, same .count); answer = same .answer; state = same .state; fit = same .fit })
+        rw (went-next fl area bytes n k total (toldAt fl area m) refl (told-answer ∙ z), told-out fl area m, told-new fl area m, run-next most s m moves z, ← step-state fl area m fit z o refl)
+        (record { count = omega (arith, same .count); totals = omega (arith, same .totals); answer = same .answer; state = same .state; fit = same .fit })
 
-    stop-same : (answer s m ≡ 0 → ⊥) → Same k (wentFrom (suc n) fl area bytes k) (run (suc most) s (m ∷ moves))
+    stop-same : (answer s m ≡ 0 → ⊥) → Same k total (wentFrom (suc n) fl area bytes k total) (run (suc most) s (m ∷ moves))
     stop-same z =
-        rw (went-stop fl area bytes n k o refl (λ e. z (sym (step-answer fl area m) ∙ e)), run-stop most s m moves z, ← step-refused fl area m (answer s m) z refl)
-        (record { count = omega arith; answer = refl; state = refl; fit = fit })
+        rw (went-stop fl area bytes n k total (toldAt fl area m) refl (λ e. z (sym told-answer ∙ e)), told-out fl area m, run-stop most s m moves z, ← step-refused fl area m (answer s m) z refl)
+        (record { count = omega arith; totals = omega arith; answer = refl; state = refl; fit = fit })
 
-  pub run-same : (most left : ℕ) (fl : Floor) (area : List ℕ) (k : ℕ) → Fit fl area → Same k (wentFrom (min most left) fl area bytes k) (run most (stateOf fl area) (movesFrom bytes k left))
+  pub run-same : (most left : ℕ) (fl : Floor) (area : List ℕ) (k total : ℕ) → Fit fl area
+      → Same k total (wentFrom (min most left) fl area bytes k total) (run most (stateOf fl area) (movesFrom bytes k left))
   unfolding movesFrom
-  run-same zero left fl area k fit = let z : min 0 left ≡ 0 = omega arith in rw (z, went-none fl area bytes k, run-none (stateOf fl area)) (none-same fl area k fit)
-  run-same (suc most) zero fl area k fit =
-      let z : min (suc most) 0 ≡ 0 = omega arith in rw (z, went-none fl area bytes k, run-end (suc most) (stateOf fl area)) (none-same fl area k fit)
-  run-same (suc most) (suc left) fl area k fit =
+  run-same zero left fl area k total fit =
+      let z : min 0 left ≡ 0 = omega arith in rw (z, went-none fl area bytes k total, run-none (stateOf fl area)) (none-same fl area k total fit)
+  run-same (suc most) zero fl area k total fit =
+      let z : min (suc most) 0 ≡ 0 = omega arith in rw (z, went-none fl area bytes k total, run-end (suc most) (stateOf fl area)) (none-same fl area k total fit)
+  run-same (suc most) (suc left) fl area k total fit =
       let one-less : min (suc most) (suc left) ≡ suc (min most left) = omega arith in
       let m = moveAt bytes k in
       rw one-less
       (⊎-elim
       (λ e. let z : answer (stateOf fl area) m ≡ 0 = eqb-true (answer (stateOf fl area) m) 0 e in
-      more-same fl area k (min most left) most (movesFrom bytes (suc k) left) fit z
-      (rw add-one (run-same most left (stepAt fl area m .floor) (stepAt fl area m .area) (suc k) (step-fit fl area m fit z (stepAt fl area m) refl))))
-      (λ e. stop-same fl area k (min most left) most (movesFrom bytes (suc k) left) fit (eqb-false (answer (stateOf fl area) m) 0 e))
+      more-same fl area k total (min most left) most (movesFrom bytes (suc k) left) fit z
+      (rw add-one (run-same most left (stepAt fl area m .floor) (stepAt fl area m .area) (suc k) (total + bit (isNew (stateOf fl area) m)) (step-fit fl area m fit z (stepAt fl area m) refl))))
+      (λ e. stop-same fl area k total (min most left) most (movesFrom bytes (suc k) left) fit (eqb-false (answer (stateOf fl area) m) 0 e))
       (decided (eqb (answer (stateOf fl area) m) 0)))
+
+-- no other most-number than the records that are there
+pub all-same : (bytes : List ℕ) (n : ℕ) (fl : Floor) (area : List ℕ) → Fit fl area → Same 0 0 (wentFrom n fl area bytes 0 0) (run n (stateOf fl area) (movesFrom bytes 0 n))
+all-same bytes n fl area fit =
+    let all : min n n ≡ n = omega arith in
+    subst (λ (q : ℕ). Same 0 0 (wentFrom q fl area bytes 0 0) (run n (stateOf fl area) (movesFrom bytes 0 n))) all (run-same bytes n n fl area 0 0 fit)
 
 -- ---- the run of a public call
 
 module _ (fl : Floor) (area bytes : List ℕ) (most : ℕ) (fit : Fit fl area) where
-  pub went-same : length bytes % 16 ≡ 0 → Same 0 (went fl area bytes most) (run most (stateOf fl area) (movesFrom bytes 0 (length bytes / 16)))
+  pub went-same : length bytes % 16 ≡ 0 → Same 0 0 (went fl area bytes most) (run most (stateOf fl area) (movesFrom bytes 0 (length bytes / 16)))
   went-same even =
       let shaped : inShapeAt fl area ≡ true = fit-shape fl area fit in
-      subst (λ (w : Went). Same 0 w (run most (stateOf fl area) (movesFrom bytes 0 (length bytes / 16))))
+      subst (λ (w : Went). Same 0 0 w (run most (stateOf fl area) (movesFrom bytes 0 (length bytes / 16))))
       (run-0 fl area bytes most (fit .exact) true (sym shaped) refl even (min most (length bytes / 16)) refl _ refl)
-      (run-same bytes most (length bytes / 16) fl area 0 fit)
+      (run-same bytes most (length bytes / 16) fl area 0 0 fit)
 
   pub went-ragged : (length bytes % 16 ≡ 0 → ⊥) → stopped 16 fl area ≡ went fl area bytes most
   went-ragged odd = run-16 fl area bytes most (fit .exact) true (sym (fit-shape fl area fit)) refl odd

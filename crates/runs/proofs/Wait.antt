@@ -1,16 +1,16 @@
 -- DEMAND 3, of the library: for calls one after another on a floor that was opened, and for every whole sequence of bytes. Assumes nothing.
-use mathlib.Core.Path.{_≡_, refl, sym, ap, _∙_, subst}
-use mathlib.Core.Bool.{Bool, true, false, not, _||_}
-use mathlib.Core.Logic.{_≢_, ⊎-elim}
+use mathlib.Core.Path.{_≡_, sym, ap, _∙_, subst}
+use mathlib.Core.Bool.{true}
+use mathlib.Core.Logic.{⊎-elim}
 use mathlib.Core.List.{List, [], _∷_, _++_, append-assoc, append-nil}
-use Prim.Native.Nat.{ℕ, _-_, _/_, _%_, _<_, min}
+use Prim.Native.Nat.{ℕ, _-_, _/_, _%_, _<_}
 use native.Mathlib.Omega.{arith}
 use lib.Dec.{eqb}
 use lib.ListN.{length, take, drop}
 use borrow.Author.Tests.{eqb-true, eqb-false}
 use Rattle.sets.proofs.Tests.{decided}
 use Rattle.rules.specs.Rules as rules
-use Rattle.rules.specs.Rules.{State, Move, withinLimits, fresh, next, mostNotes}
+use Rattle.rules.specs.Rules.{State, Move, withinLimits, fresh, next}
 use Rattle.rules.specs.Running.{run}
 use Rattle.agreement.specs.View.{after}
 use Rattle.agreement.specs.Demand.{AnnouncedBy, LaterThanWait, OnEveryGoodList}
@@ -21,15 +21,15 @@ use Rattle.records.specs.declared.Action.{Action}
 use Rattle.floors.specs.Bridge.{settingsOf, stateOf, noFloor}
 use Rattle.floors.specs.declared.Floor.{Floor}
 use Rattle.floors.proofs.Bridge.{no-entries}
-use Rattle.moves.specs.Moves.{Outcome, stepAt}
-use Rattle.moves.proofs.StepLaws.{Fit, step-next}
+use Rattle.moves.specs.Moves.{Outcome, Told}
+use Rattle.moves.proofs.StepLaws.{Fit, told-out, step-next}
 use Rattle.actions.specs.Actions.{opened, settingsIn, moveOf, acted}
-use Rattle.actions.proofs.Calls.{fit-shape, act-step}
-use Rattle.actions.proofs.Openings.{opened-none, opened-state, opened-fit, limits}
-use Rattle.runs.specs.Runs.{movesFrom, Went, wentFrom, went, stopped, wholeWent}
+use Rattle.actions.proofs.Calls.{act-fits}
+use Rattle.actions.proofs.Openings.{opened-state, opened-fit, limits}
+use Rattle.runs.specs.Runs.{movesFrom, Went, wentFrom, went, unbegun, wholeWent}
 use Rattle.runs.specs.Calls.{Call, one, many, leaves, movesOf, leftBy, allMoves}
-use Rattle.runs.proofs.CallLaws.{tail, records-there, whole-15, whole-16, whole-stops, whole-runs}
-use Rattle.runs.proofs.SameRun.{Same, run-same, went-same, went-ragged, run-state}
+use Rattle.runs.proofs.CallLaws.{whole-either}
+use Rattle.runs.proofs.SameRun.{Same, all-same, went-same, went-ragged, run-state}
 
 abbrev stateIn : Outcome → State
 stateIn o = stateOf (o .floor) (o .area)
@@ -45,12 +45,14 @@ module _ (fl : Floor) (area : List ℕ) (fit : Fit fl area) where
   abbrev s : State
   s = stateOf fl area
 
-  one-leads : (x : Action) → Leads s (moveOf x ∷ []) (acted fl area x)
+  one-leads : (x : Action) → Leads s (moveOf x ∷ []) (acted fl area x .out)
   one-leads x =
       let (state, left) = step-next fl area (moveOf x) fit in
-      subst (Leads s (moveOf x ∷ [])) (act-step fl area x (fit .exact) true (sym (fit-shape fl area fit)) refl (stepAt fl area (moveOf x)) refl) (record { state = state ∙ sym (after-next s (moveOf x) [] ∙ after-none (next s (moveOf x))); fit = left })
+      subst (Leads s (moveOf x ∷ []))
+      (sym (told-out fl area (moveOf x)) ∙ ap (λ (t : Told). t .out) (act-fits fl area x fit))
+      (record { state = state ∙ sym (after-next s (moveOf x) [] ∙ after-none (next s (moveOf x))); fit = left })
 
-  same-leads : (bytes : List ℕ) (most left : ℕ) (w : Went) → Same 0 w (run most s (movesFrom bytes 0 left)) → Leads s (movesFrom bytes 0 (w .count)) (w .out)
+  same-leads : (bytes : List ℕ) (most left : ℕ) (w : Went) → Same 0 0 w (run most s (movesFrom bytes 0 left)) → Leads s (movesFrom bytes 0 (w .count)) (w .out)
   same-leads bytes most left w same =
       let counted : run most s (movesFrom bytes 0 left) .count ≡ w .count = omega (arith, same .count) in
       record { state = same .state ∙ run-state bytes most left 0 s ∙ ap (λ (n : ℕ). after next s (movesFrom bytes 0 n)) counted; fit = same .fit }
@@ -113,52 +115,29 @@ no-floor bytes w none e T below announced late =
     absurd never
 
 -- every record after the opening
-module _ (area bytes : List ℕ) (x : Action) (opens : opened area x .answer ≡ 0) (part : List ℕ) (is : part ≡ drop 16 bytes) (n : ℕ) where
+module _ (area bytes : List ℕ) (x : Action) (opens : opened area x .answer ≡ 0) (n : ℕ) where
   abbrev k : rules.Settings
   k = settingsOf (settingsIn x)
 
   abbrev ran : Went
-  ran = wentFrom n (opened area x .floor) (opened area x .area) part 0
+  ran = wentFrom n (opened area x .floor) (opened area x .area) (drop 16 bytes) 0 0
 
-  ran-leads : Leads (fresh k) (movesFrom (drop 16 bytes) 0 (ran .count)) (ran .out)
+  abbrev moves : List Move
+  moves = movesFrom (drop 16 bytes) 0 (ran .count)
+
+  ran-leads : Leads (fresh k) moves (ran .out)
   ran-leads =
       let fl = opened area x .floor in
       let area′ = opened area x .area in
-      let all : min n n ≡ n = omega arith in
-      subst (λ (t : State). Leads t (movesFrom (drop 16 bytes) 0 (ran .count)) (ran .out)) (opened-state area x opens)
-      (subst (λ (b : List ℕ). Leads (stateOf fl area′) (movesFrom b 0 (ran .count)) (ran .out)) is
-      (same-leads fl area′ (opened-fit area x opens) part n n ran
-      (subst (λ (q : ℕ). Same 0 (wentFrom q fl area′ part 0) (run n (stateOf fl area′) (movesFrom part 0 n))) all (run-same part n n fl area′ 0 (opened-fit area x opens)))))
+      subst (λ (t : State). Leads t moves (ran .out)) (opened-state area x opens)
+      (same-leads fl area′ (opened-fit area x opens) (drop 16 bytes) n n ran (all-same (drop 16 bytes) n fl area′ (opened-fit area x opens)))
 
   ran-waits : Waits bytes ran
   ran-waits e T =
-      let moves = movesFrom (drop 16 bytes) 0 (ran .count) in
       subst (λ (q : rules.Settings). e < q .u → AnnouncedBy q e moves T → LaterThanWait q T (stateIn (ran .out)) → OnEveryGoodList e (stateIn (ran .out)))
       (sym (ap (λ (t : State). t .settings) (ran-leads .state) ∙ settings-after k moves))
       (led k (limits area x opens) moves (ran .out) ran-leads e T)
 
 module _ (area bytes : List ℕ) where
-  abbrev o : Outcome
-  o = opened area (actionOf (take 16 bytes))
-
-  abbrev ragged : Bool
-  ragged = eqb (length bytes) 0 || not (eqb (length bytes % 16) 0)
-
-  opening-read : length area ≡ mostNotes → ragged ≡ false → Waits bytes (wholeWent area bytes)
-  opening-read long h =
-      ⊎-elim
-      (λ e. let z : o .answer ≡ 0 = eqb-true (o .answer) 0 e in
-      let part = take (length bytes - 16) (drop 16 bytes) in
-      subst (Waits bytes) (whole-runs area bytes long h o refl z (wentFrom (length bytes / 16 - 1) (o .floor) (o .area) part 0) refl)
-      (ran-waits area bytes (actionOf (take 16 bytes)) z part (tail bytes 16 (records-there area bytes long h .0)) (length bytes / 16 - 1)))
-      (λ e. let z : o .answer ≢ 0 = eqb-false (o .answer) 0 e in
-      subst (Waits bytes) (whole-stops area bytes long h o refl z) (no-floor bytes (record { count = 0; out = o }) (opened-none area (actionOf (take 16 bytes)) z)))
-      (decided (eqb (o .answer) 0))
-
   pub wait-whole : Waits bytes (wholeWent area bytes)
-  wait-whole =
-      ⊎-elim
-      (λ l. let long : length area ≡ mostNotes = eqb-true (length area) mostNotes l in
-      ⊎-elim (λ h. subst (Waits bytes) (whole-16 area bytes long h noFloor refl) (no-floor bytes (stopped 16 noFloor area) refl)) (opening-read long) (decided ragged))
-      (λ l. subst (Waits bytes) (whole-15 area bytes (eqb-false (length area) mostNotes l) noFloor refl) (no-floor bytes (stopped 15 noFloor area) refl))
-      (decided (eqb (length area) mostNotes))
+  wait-whole = whole-either area bytes (Waits bytes) (λ o. no-floor bytes (unbegun o)) (λ z. ran-waits area bytes (actionOf (take 16 bytes)) z (length bytes / 16 - 1))

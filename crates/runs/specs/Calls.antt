@@ -14,7 +14,7 @@ pub data Call : Type 0 where
 
 -- what a call leaves
 unfoldable pub leaves : Floor → List ℕ → Call → Outcome
-leaves fl area (one x) = acted fl area x
+leaves fl area (one x) = acted fl area x .out
 leaves fl area (many bytes most) = went fl area bytes most .out
 
 -- the moves of a call: the action's, refused or not, or those of the records carried out

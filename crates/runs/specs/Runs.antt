@@ -1,14 +1,15 @@
 -- 'Running a sequence', of bytes on a floor and its note area: the steps of the rules, one record after another. Assumes nothing.
 use mathlib.Core.Bool.{not, cond, _||_}
 use mathlib.Core.List.{List, [], _∷_, _++_}
-use Prim.Native.Nat.{ℕ, zero, suc, _*_, _/_, _%_, _-_, min}
+use Prim.Native.Nat.{ℕ, zero, suc, _+_, _*_, _/_, _%_, _-_, min}
 use lib.Dec.{eqb}
 use lib.ListN.{length, take, drop}
+use Rattle.sets.specs.Counting.{bit}
 use Rattle.rules.specs.Rules.{Move, Check, _when_, firstOf}
 use Rattle.records.specs.Records.{actionOf, recordAt}
 use Rattle.floors.specs.Bridge.{noFloor}
 use Rattle.floors.specs.declared.Floor.{Floor}
-use Rattle.moves.specs.Moves.{Outcome, stepAt}
+use Rattle.moves.specs.Moves.{Outcome, refusal, toldAt}
 use Rattle.actions.specs.Actions.{moveOf, wrongArea, callChecks, opened}
 
 -- ---- the moves of a sequence
@@ -24,20 +25,26 @@ movesFrom bytes k (suc n) = moveAt bytes k ∷ movesFrom bytes (suc k) n
 
 -- ---- a run
 
--- "It reports how many records it carried out .. and the last number"; the floor and the area come with them
+-- "It reports how many records it carried out .. and the last number", and "a run should total the new ones"; the floor and the area come
+-- with them
 pub record Went : Type 0 where
   pub count : ℕ
+  pub total : ℕ
   pub out : Outcome
 
--- at most n records, from record k on, up to the first that is refused
-unfoldable pub wentFrom : ℕ → Floor → List ℕ → List ℕ → ℕ → Went
-wentFrom zero fl area bytes k = record { count = k; out = record { answer = 0; floor = fl; area = area } }
-wentFrom (suc n) fl area bytes k =
-    let o = stepAt fl area (moveAt bytes k) in
-    cond (eqb (o .answer) 0) (wentFrom n (o .floor) (o .area) bytes (suc k)) (record { count = k; out = o })
+-- at most n records, from record k on, up to the first that is refused; so many were new before them
+unfoldable pub wentFrom : ℕ → Floor → List ℕ → List ℕ → ℕ → ℕ → Went
+wentFrom zero fl area bytes k total = record { count = k; total = total; out = record { answer = 0; floor = fl; area = area } }
+wentFrom (suc n) fl area bytes k total =
+    let t = toldAt fl area (moveAt bytes k) in
+    cond (eqb (t .out .answer) 0) (wentFrom n (t .out .floor) (t .out .area) bytes (suc k) (total + bit (t .new))) (record { count = k; total = total; out = t .out })
+
+-- nothing was carried out
+abbrev pub unbegun : Outcome → Went
+unbegun o = record { count = 0; total = 0; out = o }
 
 abbrev pub stopped : ℕ → Floor → List ℕ → Went
-stopped number fl area = record { count = 0; out = record { answer = number; floor = fl; area = area } }
+stopped number fl area = unbegun (refusal number fl area)
 
 -- "If the length isn't a multiple of 16 the run answers 16 after 15 and 1"
 unfoldable pub runChecks : Floor → List ℕ → List ℕ → List Check
@@ -47,7 +54,7 @@ runChecks fl area bytes = callChecks fl area ++ 16 when not (eqb (length bytes %
 unfoldable pub went : Floor → List ℕ → List ℕ → ℕ → Went
 went fl area bytes most =
     let number = firstOf (runChecks fl area bytes) in
-    cond (eqb number 0) (wentFrom (min most (length bytes / 16)) fl area bytes 0) (stopped number fl area)
+    cond (eqb number 0) (wentFrom (min most (length bytes / 16)) fl area bytes 0 0) (stopped number fl area)
 
 -- ---- the part not carried out
 
@@ -63,7 +70,7 @@ wholeChecks area bytes = wrongArea area ∷ 16 when (eqb (length bytes) 0 || not
 
 -- what follows the opening: "An opening stands first in a whole sequence and nowhere else"; the count leaves it out
 unfoldable pub afterOpening : Outcome → List ℕ → Went
-afterOpening o bytes = cond (eqb (o .answer) 0) (wentFrom (length bytes / 16 - 1) (o .floor) (o .area) (drop 16 bytes) 0) (record { count = 0; out = o })
+afterOpening o bytes = cond (eqb (o .answer) 0) (wentFrom (length bytes / 16 - 1) (o .floor) (o .area) (drop 16 bytes) 0 0) (unbegun o)
 
 -- A WHOLE SEQUENCE: "a whole sequence refused before it opens, gives a floor of zeros .. and doesn't clear the area"
 unfoldable pub wholeWent : List ℕ → List ℕ → Went

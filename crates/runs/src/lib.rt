@@ -1,6 +1,5 @@
 // Runs of action records: a run on a floor, the part of the sequence that it has not carried out, and a whole
 // sequence, which opens its floor itself.
-use actions::Acted;
 use actions::step::step;
 use floors::Floor;
 use floors::Settings;
@@ -9,17 +8,20 @@ use moves::head::answered;
 use shapes::in_shape;
 ghost use mathlib.Core.Path.{_≡_};
 ghost use mathlib.Core.Bool.{true};
-ghost use Prim.Native.Nat.{_≤_, _*_, min};
+ghost use Prim.Native.Nat.{_≤_, _+_, _*_, min};
 ghost use lib.ListN.{length};
 ghost use Rattle.rules.specs.Rules.{mostNotes};
+ghost use Rattle.rules.specs.NewSources.{sizes};
 ghost use Rattle.records.specs.Records.{actionOf};
 ghost use Rattle.shapes.specs.Shape.{inShapeAt};
-ghost use Rattle.moves.specs.Moves.{Ready, held, left, stepAt};
+ghost use Rattle.moves.specs.Moves.{Ready, held, left, toldAt};
 ghost use Rattle.actions.specs.Actions.{moveOf};
 ghost use Rattle.runs.specs.Runs.{wentFrom, went, restOf, wholeWent};
 
+// How many records were carried out and how many of them added a source, the last number, and the floor.
 pub struct Ran {
     pub count: usize,
+    pub total: usize,
     pub answer: u8,
     pub floor: Floor,
 }
@@ -39,7 +41,7 @@ fn step_record(
 ) -> Head
     requires { ⌜ Ready settings head (length (now area)) × (length (now bytes) ≡ 16) ⌝ }
     ensures { λ r. ⌜ left settings r (now (faulty .exit)) (now (pass .exit)) (now (accept .exit)) (now (listed .exit)) (now (sent .exit)) (now (received .exit)) (now (area .exit))
-        ≡ stepAt (held settings head (now (faulty .entry)) (now (pass .entry)) (now (accept .entry)) (now (listed .entry)) (now (sent .entry)) (now (received .entry))) (now (area .entry)) (moveOf (actionOf (now (bytes .entry)))) ⌝ }
+        ≡ toldAt (held settings head (now (faulty .entry)) (now (pass .entry)) (now (accept .entry)) (now (listed .entry)) (now (sent .entry)) (now (received .entry))) (now (area .entry)) (moveOf (actionOf (now (bytes .entry)))) ⌝ }
 {
     let reading = records::read(bytes);
     if reading.answer != 0 {
@@ -63,7 +65,7 @@ fn step_record(
 // At most `limit` records of the sequence, up to the first that is refused. The floor is taken apart once for all of them.
 fn run_records(floor: Floor, area: &mut [u64], sequence: &[u8], limit: usize) -> Ran
     requires { ⌜ (inShapeAt floor (now area) ≡ true) × (length (now area) ≡ mostNotes) × (16 * limit ≤ length (now sequence)) ⌝ }
-    ensures { λ r. ⌜ record { count = r .count; out = record { answer = r .answer; floor = r .floor; area = now (area .exit) } } ≡ wentFrom limit floor (now (area .entry)) (now (sequence .entry)) 0 ⌝ }
+    ensures { λ r. ⌜ record { count = r .count; total = r .total; out = record { answer = r .answer; floor = r .floor; area = now (area .exit) } } ≡ wentFrom limit floor (now (area .entry)) (now (sequence .entry)) 0 0 ⌝ }
 {
     let settings = floor.settings;
     let mut faulty = floor.faulty;
@@ -74,10 +76,12 @@ fn run_records(floor: Floor, area: &mut [u64], sequence: &[u8], limit: usize) ->
     let mut received = floor.received;
     let mut head = Head {
         answer: 0,
+        new: false,
         clock: floor.clock,
         waiting: floor.waiting,
     };
     let mut count: usize = 0;
+    let mut total: usize = 0;
     while count < limit {
         let at = 16 * count;
         let end = at + 16;
@@ -97,9 +101,11 @@ fn run_records(floor: Floor, area: &mut [u64], sequence: &[u8], limit: usize) ->
             break;
         }
         count += 1;
+        total += head.new as usize;
     }
     Ran {
         count: count,
+        total: total,
         answer: head.answer,
         floor: Floor {
             settings: settings,
@@ -149,11 +155,13 @@ fn shape_holds(floor: Floor, area: &[u64]) -> bool
 
 // A run on a floor: at most `most` records, up to the first that is refused.
 pub fn run(floor: Floor, area: &mut [u64], sequence: &[u8], most: usize) -> Ran
-    ensures { λ r. ⌜ record { count = r .count; out = record { answer = r .answer; floor = r .floor; area = now (area .exit) } } ≡ went floor (now (area .entry)) (now (sequence .entry)) most ⌝ }
+    ensures { λ r. ⌜ (record { count = r .count; total = r .total; out = record { answer = r .answer; floor = r .floor; area = now (area .exit) } } ≡ went floor (now (area .entry)) (now (sequence .entry)) most)
+        × (sizes (r .floor .received) ≡ sizes (floor .received) + r .total) ⌝ }
 {
     if area.len() != Settings::NOTES {
         return Ran {
             count: 0,
+            total: 0,
             answer: 15,
             floor: floor,
         };
@@ -161,6 +169,7 @@ pub fn run(floor: Floor, area: &mut [u64], sequence: &[u8], most: usize) -> Ran
     if !shape_holds(floor, area) {
         return Ran {
             count: 0,
+            total: 0,
             answer: 1,
             floor: floor,
         };
@@ -168,6 +177,7 @@ pub fn run(floor: Floor, area: &mut [u64], sequence: &[u8], most: usize) -> Ran
     if sequence.len() % 16 != 0 {
         return Ran {
             count: 0,
+            total: 0,
             answer: 16,
             floor: floor,
         };
@@ -190,11 +200,13 @@ pub fn rest(sequence: &[u8], count: usize) -> &[u8]
 
 // A whole sequence: an opening, and a run of all the records after it on the floor that it opens.
 pub fn whole(area: &mut [u64], sequence: &[u8]) -> Ran
-    ensures { λ r. ⌜ record { count = r .count; out = record { answer = r .answer; floor = r .floor; area = now (area .exit) } } ≡ wholeWent (now (area .entry)) (now (sequence .entry)) ⌝ }
+    ensures { λ r. ⌜ (record { count = r .count; total = r .total; out = record { answer = r .answer; floor = r .floor; area = now (area .exit) } } ≡ wholeWent (now (area .entry)) (now (sequence .entry)))
+        × (sizes (r .floor .received) ≡ r .total) ⌝ }
 {
     if area.len() != Settings::NOTES {
         return Ran {
             count: 0,
+            total: 0,
             answer: 15,
             floor: Floor::none(),
         };
@@ -202,6 +214,7 @@ pub fn whole(area: &mut [u64], sequence: &[u8]) -> Ran
     if (sequence.len() == 0) | (sequence.len() % 16 != 0) {
         return Ran {
             count: 0,
+            total: 0,
             answer: 16,
             floor: Floor::none(),
         };
@@ -213,6 +226,7 @@ pub fn whole(area: &mut [u64], sequence: &[u8]) -> Ran
     if opened.answer != 0 {
         return Ran {
             count: 0,
+            total: 0,
             answer: opened.answer,
             floor: floor,
         };

@@ -17,6 +17,7 @@ reported w =
     record {
       report = record {
         count = w .count;
+        total = w .total;
         answer = w .out .answer;
         n = k .n;
         f = k .f;

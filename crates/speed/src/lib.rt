@@ -7,6 +7,7 @@ ghost use Rattle.speed.specs.Reports.{reported};
 #[repr(C)]
 pub struct Report {
     pub count: usize,
+    pub total: usize,
     pub answer: u8,
     pub n: u8,
     pub f: u8,
@@ -40,6 +41,7 @@ pub extern "C" fn umidezh_run_whole(area: &mut [u64], sequence: &[u8]) -> Report
     let received = floor.received;
     Report {
         count: ran.count,
+        total: ran.total,
         answer: ran.answer,
         n: settings.n,
         f: settings.f,

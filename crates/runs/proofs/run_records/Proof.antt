@@ -3,6 +3,7 @@ use mathlib.Core.Path.{sym, _∙_}
 use Prim.Native.Nat.{_-_}
 use native.Mathlib.Omega.{arith}
 use borrow.Author.Needs.{needs}
+use Rattle.sets.proofs.CountLaws.{bit-le}
 use Rattle.floors.specs.Bridge.{Sized}
 use Rattle.moves.specs.Moves.{held}
 use Rattle.runs.specs.Runs.{wentFrom}
@@ -12,11 +13,11 @@ use Rattle.runs.proofs.run_records.Statement.{statement}
 use Rattle.runs.proofs.run_records.Tie as tie
 
 abbrev Inv-loop : tie.InvT-loop
-Inv-loop area₀ sequence limit settings faulty₀ pass₀ accept₀ listed₀ sent₀ received₀ head₀ count₀ area faulty pass accept listed sent received head count =
-    Going settings limit sequence (wentFrom limit (held settings head₀ faulty₀ pass₀ accept₀ listed₀ sent₀ received₀) area₀ sequence 0) head faulty pass accept listed sent received area count
+Inv-loop area₀ sequence limit settings faulty₀ pass₀ accept₀ listed₀ sent₀ received₀ head₀ count₀ total₀ area faulty pass accept listed sent received head count total =
+    Going settings limit sequence (wentFrom limit (held settings head₀ faulty₀ pass₀ accept₀ listed₀ sent₀ received₀) area₀ sequence 0 0) head faulty pass accept listed sent received area count total
 
 abbrev μ-loop : tie.MeasureT-loop
-μ-loop area₀ sequence limit settings faulty₀ pass₀ accept₀ listed₀ sent₀ received₀ head₀ count₀ area faulty pass accept listed sent received head count = limit - count
+μ-loop area₀ sequence limit settings faulty₀ pass₀ accept₀ listed₀ sent₀ received₀ head₀ count₀ total₀ area faulty pass accept listed sent received head count total = limit - count
 
 sized : (c : tie.Start Inv-loop μ-loop) → Sized (c .args .floor)
 sized c = record { faulty = search needs; pass = search needs; accept = search needs; listed = search needs; sent = search needs; received = search needs }
@@ -52,37 +53,46 @@ step-record-requires : tie.Need-step-record-requires Inv-loop μ-loop
 step-record-requires c κs =
     let turn = c .before .before .before .before .before .before .before .before in
     let at = turn .before .loop in
-    (going-ready _ _ _ _ _ _ _ _ _ _ _ _ _ (at .inv), part-long _ (at .count) (omega (arith, begun (turn .before) .pre .2, turn .loop-test .taken)))
+    (going-ready _ _ _ _ _ _ _ _ _ _ _ _ _ _ (at .inv), part-long _ (at .count) (omega (arith, begun (turn .before) .pre .2, turn .loop-test .taken)))
 
 add-count : tie.Need-add-count Inv-loop μ-loop
 add-count c =
     let turn = turned (c .before .before .before .before) in
     omega (arith, turn .loop-test .taken, begun (turn .before) .fits .limit .fits)
 
+cast-total : tie.Need-cast-total Inv-loop μ-loop
+cast-total c = omega arith
+
+add-total : tie.Need-add-total Inv-loop μ-loop
+add-total c =
+    let done = c .before .before .before .before .before in
+    let turn = turned done in
+    omega (arith, bit-le (done .step-record .result .new), turn .before .loop .inv .few, turn .loop-test .taken, begun (turn .before) .fits .limit .fits)
+
 loop-less : tie.Need-loop-less Inv-loop μ-loop
 loop-less c =
-    let turn = turned (c .before .before .before .before) in
+    let turn = turned (c .before .before .before .before .before) in
     omega (arith, turn .loop-test .taken)
 
 loop-again : tie.Need-loop-again Inv-loop μ-loop
 loop-again c =
-    let done = c .before .before .before .before in
+    let done = c .before .before .before .before .before in
     let turn = turned done in
     let at = turn .before .loop in
-    going-next _ _ _ _ _ _ _ _ _ _ _ _ (at .count) (at .inv) _ (part-is _ (at .count)) _ _ _ _ _ _ _ _ (turn .loop-test .taken) (done .step-record .ensures) (c .if1 .left)
+    going-next _ _ _ _ _ _ _ _ _ _ _ _ (at .count) (at .total) (at .inv) _ (part-is _ (at .count)) _ _ _ _ _ _ _ _ (turn .loop-test .taken) (done .step-record .ensures) (c .before .if1 .left)
 
 same-length : tie.Need-same-length Inv-loop μ-loop
 same-length c = c .before .loop .inv .fit .exact ∙ sym (begun (c .before) .pre .1)
 
 returns : tie.Need-returns Inv-loop μ-loop
-returns c = going-end _ _ _ _ _ _ _ _ _ _ _ _ _ (c .before .loop .inv) (c .loop-test .left)
+returns c = going-end _ _ _ _ _ _ _ _ _ _ _ _ _ _ (c .before .loop .inv) (c .loop-test .left)
 
 same-length-2 : tie.Need-same-length-2 Inv-loop μ-loop
 same-length-2 c =
     let done = c .before .before .before .before in
     let turn = turned done in
     let at = turn .before .loop in
-    going-long _ _ _ _ _ _ _ _ _ _ _ _ (at .count) (at .inv) _ (part-is _ (at .count)) _ _ _ _ _ _ _ _ (turn .loop-test .taken) (done .step-record .ensures)
+    going-long _ _ _ _ _ _ _ _ _ _ _ _ (at .count) (at .total) (at .inv) _ (part-is _ (at .count)) _ _ _ _ _ _ _ _ (turn .loop-test .taken) (done .step-record .ensures)
     ∙ at .inv .fit .exact ∙ sym (begun (turn .before) .pre .1)
 
 returns-2 : tie.Need-returns-2 Inv-loop μ-loop
@@ -90,9 +100,9 @@ returns-2 c =
     let done = c .before .before .before .before in
     let turn = turned done in
     let at = turn .before .loop in
-    going-stop _ _ _ _ _ _ _ _ _ _ _ _ (at .count) (at .inv) _ (part-is _ (at .count)) _ _ _ _ _ _ _ _ (turn .loop-test .taken) (done .step-record .ensures) (c .if1 .taken)
+    going-stop _ _ _ _ _ _ _ _ _ _ _ _ (at .count) (at .total) (at .inv) _ (part-is _ (at .count)) _ _ _ _ _ _ _ _ (turn .loop-test .taken) (done .step-record .ensures) (c .if1 .taken)
 
 pub run-records-spec : {M : Type 1} → statement M
 run-records-spec =
     tie.close
-    (tie.spec Inv-loop μ-loop loop-holds mul-at add-end sub-step-record part-step-record-start part-step-record-end step-record-requires add-count loop-less loop-again same-length returns same-length-2 returns-2)
+    (tie.spec Inv-loop μ-loop loop-holds mul-at add-end sub-step-record part-step-record-start part-step-record-end step-record-requires add-count cast-total add-total loop-less loop-again same-length returns same-length-2 returns-2)

@@ -1,13 +1,14 @@
 -- `runs::whole` meets its contract. Assumes nothing.
-use mathlib.Core.Path.{_≡_, sym, _∙_}
+use mathlib.Core.Path.{_≡_, sym, ap, _∙_}
 use Prim.Native.Nat.{_≤_, _%_}
 use native.Mathlib.Omega.{arith}
 use lib.ListN.{length, take}
 use lib.Seq.{length-take-le}
 use Rattle.records.specs.Records.{actionOf}
-use Rattle.moves.specs.Moves.{Outcome}
+use Rattle.moves.specs.Moves.{Outcome, Told}
 use Rattle.actions.specs.Actions.{opened}
 use Rattle.runs.proofs.CallLaws.{opened-read, records-there, whole-15, whole-16, whole-stops, whole-ready, whole-runs}
+use Rattle.runs.proofs.Totals.{whole-total}
 use borrow.Author.Needs.{needs}
 use Rattle.runs.proofs.whole.Statement.{statement}
 use Rattle.runs.proofs.whole.Tie as tie
@@ -35,20 +36,20 @@ left c = record { answer = opens c .«open» .result .answer; floor = opens c .�
 
 opening : (c : tie.After-struct-known) → left c ≡ opened (start (some c) .args .area .now) (actionOf (take 16 (start (some c) .args .sequence .now)))
 opening c =
-    opens c .«open» .ensures
+    ap (λ (t : Told). t .out) (opens c .«open» .ensures)
     ∙ opened-read (start (some c) .args .area .now) (take 16 (start (some c) .args .sequence .now)) _ (opens c .before .before .before .read .ensures) (sixteen (some c)) (some c .before .if1 .left)
 
 none-requires : tie.Need-none-requires
 none-requires c κs = search needs
 
 returns : tie.Need-returns
-returns c = search whole-15
+returns c = whole-total _ _ _ (search whole-15)
 
 none-requires-2 : tie.Need-none-requires-2
 none-requires-2 c κs = search needs
 
 returns-2 : tie.Need-returns-2
-returns-2 c = search whole-16
+returns-2 c = whole-total _ _ _ (search whole-16)
 
 slice-aggregate-read : tie.Need-slice-aggregate-read
 slice-aggregate-read c = sym (sixteen (c .before))
@@ -63,7 +64,9 @@ same-length : tie.Need-same-length
 same-length c = search needs
 
 returns-3 : tie.Need-returns-3
-returns-3 c = whole-stops (start (some (c .before)) .args .area .now) (start (some (c .before)) .args .sequence .now) (some (c .before) .before .if1 .left) (some (c .before) .if2 .left) (left (c .before)) (opening (c .before)) (c .if3 .taken)
+returns-3 c =
+    whole-total _ _ _
+    (whole-stops (start (some (c .before)) .args .area .now) (start (some (c .before)) .args .sequence .now) (some (c .before) .before .if1 .left) (some (c .before) .if2 .left) (left (c .before)) (opening (c .before)) (c .if3 .taken))
 
 sub-limit : tie.Need-sub-limit
 sub-limit c = omega (arith, there (some (c .before)))
@@ -89,7 +92,8 @@ returns-4 : tie.Need-returns-4
 returns-4 c =
     let ran = c .before .before in
     let opened = ran .before .before .before .before in
-    whole-runs (start (some opened) .args .area .now) (start (some opened) .args .sequence .now) (some opened .before .if1 .left) (some opened .if2 .left) (left opened) (opening opened) (ran .before .before .before .if3 .left) _ (ran .run-records .ensures)
+    whole-total _ _ _
+    (whole-runs (start (some opened) .args .area .now) (start (some opened) .args .sequence .now) (some opened .before .if1 .left) (some opened .if2 .left) (left opened) (opening opened) (ran .before .before .before .if3 .left) _ (ran .run-records .ensures))
 
 pub whole-spec : {M : Type 1} → statement M
 whole-spec =
