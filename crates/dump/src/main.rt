@@ -1,18 +1,30 @@
-// For tests of what the program `floor` keeps to itself: prints what `floor` prints, then the waiting notes in the order
-// of the area, and then the sets of sources and of sent entries that are not empty, as numbers.
-use floors::Floor;
+// For tests of what the program `floor` keeps to itself: prints what `floor` prints, then how many sources were new, the
+// waiting notes in the order of the area, and the sets of sources and of sent entries that are not empty, as numbers; and
+// then what the call for one action gives for each record.
+pub mod acting;
+
+use crate::acting::acts;
 use lines::number;
 use lines::word;
+use runs::Ran;
 ghost use Prim.Native.Nat.{_+_, _*_, _≤_};
 ghost use lib.ListN.{length};
 
 // A number with a word before it.
-fn field(out: &mut [u8], at: usize, before: &[u8], n: u64) -> usize
+pub fn field(out: &mut [u8], at: usize, before: &[u8], n: u64) -> usize
     requires { ⌜ at + (length (now before) + 20) ≤ length (now out) ⌝ }
     ensures { λ r. ⌜ r ≤ at + (length (now (before .entry)) + 20) ⌝ }
 {
     let next = word(out, at, before);
     number(out, next, n)
+}
+
+fn total_line(out: &mut [u8], at: usize, total: usize) -> usize
+    requires { ⌜ at + 25 ≤ length (now out) ⌝ }
+    ensures { λ r. ⌜ r ≤ at + 25 ⌝ }
+{
+    let a = field(out, at, b"new ", total as u64);
+    word(out, a, b"\n")
 }
 
 fn note_line(
@@ -122,18 +134,20 @@ fn least(a: usize, b: usize) -> usize
     if a < b { a } else { b }
 }
 
-// All that is printed. No more notes wait than the area has places.
-fn all_lines(out: &mut [u8], area: &[u64], count: usize, answer: u8, floor: Floor) -> usize
-    requires { ⌜ 89 * length (now area) + 97293 ≤ length (now out) ⌝ }
-    ensures { λ r. ⌜ r ≤ 89 * length (now (area .entry)) + 97293 ⌝ }
+// What the whole sequence left. No more notes wait than the area has places.
+fn all_lines(out: &mut [u8], area: &[u64], ran: Ran) -> usize
+    requires { ⌜ 89 * length (now area) + 97318 ≤ length (now out) ⌝ }
+    ensures { λ r. ⌜ r ≤ 89 * length (now (area .entry)) + 97318 ⌝ }
 {
+    let floor = ran.floor;
     let waiting = least(floor.waiting, area.len());
     let received = floor.received;
     let marks = floor.sent;
-    let a = lines::outcome(out, count, answer, floor);
-    let b = waiting_notes(out, a, area, waiting);
-    let c = all_sources(out, b, received);
-    all_sent(out, c, marks)
+    let a = lines::outcome(out, ran.count, ran.answer, floor);
+    let b = total_line(out, a, ran.total);
+    let c = waiting_notes(out, b, area, waiting);
+    let d = all_sources(out, c, received);
+    all_sent(out, d, marks)
 }
 
 fn main() {
@@ -142,8 +156,9 @@ fn main() {
     let length = io::read_full(libc::STDIN_FILENO, &mut input);
     let mut area = [0u64; 2048];
     let ran = lines::run_input(&mut area, &input[..length]);
-    let floor = ran.floor;
-    let mut out = [0u8; 279565];
-    let end = all_lines(&mut out, &area, ran.count, ran.answer, floor);
+    let was_opened = ran.floor.settings.n != 0;
+    let mut out = [0u8; 554022];
+    let next = all_lines(&mut out, &area, ran);
+    let end = acts(&mut out, next, &mut area, &input[..length], was_opened);
     io::write_all(libc::STDOUT_FILENO, &out[..end]);
 }

@@ -11,9 +11,8 @@ use crate::report::line;
 use floors::Floor;
 use records::Action;
 ghost use mathlib.Core.Path.{_≡_};
-ghost use Prim.Native.Nat.{_≤_};
 ghost use lib.ListN.{length};
-ghost use Rattle.sets.specs.Counting.{bit, count};
+ghost use Rattle.sets.specs.Counting.{count};
 ghost use Rattle.handed.specs.Numbers.{isAt};
 
 // ---- numbers of the actions
@@ -72,12 +71,6 @@ pub fn first_of_equals() {
 
 // ---- openings
 
-fn one_if(same: bool) -> usize
-    ensures { λ r. ⌜ (r ≡ bit same) × (r ≤ 1) ⌝ }
-{
-    if same { 1 } else { 0 }
-}
-
 // How many of the numbers are this one.
 fn count_of(area: &[u64], number: u64) -> usize
     ensures { λ r. ⌜ r ≡ count (isAt (now (area .entry)) number) (length (now (area .entry))) ⌝ }
@@ -85,7 +78,7 @@ fn count_of(area: &[u64], number: u64) -> usize
     let mut found = 0;
     let mut i = 0;
     while i < area.len() {
-        found += one_if(area[i] == number);
+        found += (area[i] == number) as usize;
         i += 1;
     }
     found

@@ -1,7 +1,8 @@
 // Floors handed in, in shape and out of shape: what the library answers. Each line of the output is a case and a
-// number; the file `stdout` has what document 01 asks for.
+// number; the file `stdout` has what is asked for.
 pub mod answers;
 pub mod given;
+pub mod lamp;
 pub mod report;
 pub mod running;
 pub mod shape;
@@ -10,6 +11,9 @@ use crate::answers::action_numbers;
 use crate::answers::first_of_equals;
 use crate::answers::openings;
 use crate::given::shaped;
+use crate::lamp::new_flags;
+use crate::lamp::received_twice;
+use crate::lamp::totals;
 use crate::running::most_numbers;
 use crate::running::rests;
 use crate::running::run_lengths;
@@ -41,4 +45,7 @@ fn main() {
     most_numbers();
     run_lengths();
     rests();
+    new_flags();
+    received_twice();
+    totals();
 }

@@ -1,4 +1,4 @@
-//! The numbers that come back.
+//! The numbers that come back, and the new flag beside them.
 
 /// Why a record or a sequence is refused. 1 and 15 are missing: here the floor and its notes belong to the program, and nobody
 /// can hand in bad ones.
@@ -42,10 +42,22 @@ impl Refusal {
     }
 }
 
+/// What is told of an action that was carried out.
+#[derive(Clone, Copy, Debug, PartialEq, Eq)]
+pub struct Done {
+    /// A note was received, and its source was not in the set before.
+    pub new: bool,
+}
+
 /// The number that is printed: 0 for what was carried out.
 pub fn number<T>(result: &Result<T, Refusal>) -> u8 {
     match result {
         Ok(_) => 0,
         Err(refusal) => *refusal as u8,
     }
+}
+
+/// The new flag. A refusal has none, and counts as false.
+pub fn is_new(result: &Result<Done, Refusal>) -> bool {
+    result.is_ok_and(|done| done.new)
 }

@@ -1,10 +1,10 @@
 //! The cases of the rules, both sides of each line.
 
-use crate::answer::{number, Refusal};
+use crate::answer::{is_new, number, Done, Refusal};
 use crate::floor::{Floor, Note};
 use crate::random::Random;
-use crate::record::{self, Action, Settings};
-use crate::{print, run, text};
+use crate::record::{self, Action, Settings, RECORD};
+use crate::{make, print, run, text, MOST_INPUT};
 
 const SMALL: Settings = Settings { desks: 4, faults: 1, entries: 2, message: 3, pass_on: 2, accept: 2 };
 
@@ -19,9 +19,17 @@ fn small(actions: &str) -> Floor {
     after(SMALL, actions)
 }
 
-/// Tries each of the actions, and goes on after a refusal.
+/// Tries each of the actions, and goes on after a refusal. Gives each answer and new flag.
+fn told(floor: &mut Floor, actions: &str) -> Vec<(u8, bool)> {
+    let act = |action| {
+        let result = floor.act(action);
+        (number(&result), is_new(&result))
+    };
+    text::actions(actions).unwrap().into_iter().map(act).collect()
+}
+
 fn answers(floor: &mut Floor, actions: &str) -> Vec<u8> {
-    text::actions(actions).unwrap().into_iter().map(|action| number(&floor.act(action))).collect()
+    told(floor, actions).into_iter().map(|(answer, _)| answer).collect()
 }
 
 /// The answer to one more action. A refusal has to leave the floor as it was.
@@ -167,11 +175,11 @@ fn k13_desk_before_entry_and_the_end_of_the_clock() {
     while floor.clock < 4_000_000_000 {
         let ticks = (4_000_000_000 - floor.clock).min(65_535) as u32;
         for action in [Action::Delay { ticks }, Action::PassOn { desk: 0 }, Action::Accept { desk: 0 }] {
-            assert_eq!(floor.act(action), Ok(()));
+            assert_eq!(floor.act(action), Ok(Done { new: false }));
         }
     }
     assert_eq!((answer(&floor, "delay 1"), answer(&floor, "delay 0")), (14, 0));
-    assert_eq!(floor.act(Action::Announce { desk: 0, entry: 0 }), Ok(()));
+    assert_eq!(floor.act(Action::Announce { desk: 0, entry: 0 }), Ok(Done { new: false }));
     assert_eq!(floor.notes[0].time_out, 4_000_000_001);
 }
 
@@ -334,11 +342,137 @@ fn pass_on_to_a_full_area() {
     assert_eq!(last, rising);
 }
 
+/// How many sources all sets have.
+fn sources(floor: &Floor) -> usize {
+    floor.desks.iter().flat_map(|desk| &desk.received).map(|sources| sources.count_ones() as usize).sum()
+}
+
+#[test]
+fn a_source_is_new_once() {
+    // Desk 0 sends two notes alike but for their time-outs.
+    let mut floor = small("crash 0; false-note 0 1 0 3; false-note 0 1 0 1");
+    assert_eq!(told(&mut floor, "receive 1 0 0; receive 1 0 0; receive 1 0 0"), [(0, true), (0, false), (6, false)]);
+    // The same note again, after it was received.
+    assert_eq!(told(&mut floor, "false-note 0 1 0 1; receive 1 0 0"), [(0, false), (0, false)]);
+    assert_eq!(sources(&floor), 1);
+    // A desk's own note adds a source as any other does.
+    let mut alone = after(Settings { desks: 1, faults: 0, ..SMALL }, "announce 0 0");
+    assert_eq!(told(&mut alone, "receive 0 0 0; accept 0; receive 0 0 0"), [(0, true), (0, false), (6, false)]);
+}
+
+#[test]
+fn a_source_is_new_to_each_desk_for_each_entry() {
+    let mut floor = small("announce 0 0; announce 0 1; announce 1 0");
+    assert_eq!(told(&mut floor, "receive 3 0 0; receive 3 0 1; receive 2 0 0; receive 3 1 0"), [(0, true); 4]);
+    assert_eq!(sources(&floor), 4);
+    // At the ends of a set, and of the sets.
+    let mut floor = after(LARGE, "crash 0; crash 15; announce 0 0; announce 15 0; announce 0 63; announce 15 63; delay 1");
+    let ends = "receive 0 0 0; receive 0 15 0; receive 0 0 63; receive 0 15 63;
+                receive 15 0 0; receive 15 15 0; receive 15 0 63; receive 15 15 63";
+    assert_eq!(told(&mut floor, ends), [(0, true); 8]);
+    for source in [0, 15] {
+        for (desk, entry) in [(0, 0), (0, 63), (15, 0), (15, 63)] {
+            assert_eq!(answers(&mut floor, &format!("false-note {source} {desk} {entry} 5")), [0]);
+        }
+    }
+    assert_eq!(told(&mut floor, ends), [(0, false); 8]);
+    assert_eq!(sources(&floor), 8);
+}
+
+#[test]
+fn a_refused_receive_is_not_new() {
+    let mut floor = small("crash 0; false-note 0 1 0 3");
+    // The note waits, but for another desk, of another source and for another entry.
+    let others = "receive 0 0 0; receive 1 1 0; receive 1 0 1; receive 4 0 0; receive 1 4 0; receive 1 0 2";
+    assert_eq!(told(&mut floor, others), [(6, false), (6, false), (6, false), (4, false), (4, false), (5, false)]);
+    // The refusals have added nothing: it is new still.
+    assert_eq!(told(&mut floor, "receive 1 0 0"), [(0, true)]);
+}
+
+#[test]
+fn other_actions_are_not_new() {
+    let mut floor = small("announce 1 0; announce 2 0; receive 3 1 0; receive 3 2 0");
+    let carried_out = "delay 1; announce 0 1; pass-on 3; accept 3; crash 0; reset 0; false-note 0 3 0 4";
+    assert_eq!(told(&mut floor, carried_out), [(0, false); 7]);
+    let refused = "delay 3; announce 4 0; pass-on 4; accept 4; crash 0; reset 1; false-note 0 3 0 5; opening 4 1 2 3 2 2";
+    let expected = [12, 4, 4, 4, 7, 8, 10, 3].map(|answer| (answer, false));
+    assert_eq!(told(&mut floor, refused), expected);
+}
+
+#[test]
+fn totals_of_whole_sequences() {
+    let total = |actions: &str| {
+        let outcome = run(&text::sequence(actions).unwrap());
+        (outcome.ran, number(&outcome.answer), outcome.total)
+    };
+    let fresh = "opening 4 1 2 3 2 2;";
+    assert_eq!(total(fresh), (0, 0, 0));
+    assert_eq!(total(&format!("{fresh} announce 0 0; accept 0")), (2, 0, 0));
+    let two =
+        format!("{fresh} crash 0; false-note 0 1 0 3; false-note 0 1 0 1; false-note 0 2 0 1; receive 1 0 0; receive 2 0 0;");
+    assert_eq!(total(&two), (6, 0, 2));
+    assert_eq!(total(&format!("{two} receive 1 0 0")), (7, 0, 2));
+    // Of a run that ends in a refusal the part carried out counts, and nothing after it.
+    assert_eq!(total(&format!("{two} receive 3 0 0; receive 1 0 0; false-note 0 3 0 1; receive 3 0 0")), (6, 6, 2));
+    assert_eq!(total(&format!("{fresh} receive 1 0 0; announce 0 0; receive 1 0 0")), (0, 6, 0));
+    // Refused before it opens.
+    let rest = "announce 0 0; receive 1 0 0";
+    assert_eq!(total(rest), (0, 3, 0));
+    assert_eq!(total(&format!("opening 3 1 2 3 2 2; {rest}")), (0, 2, 0));
+    assert_eq!(total(""), (0, 16, 0));
+    let mut bytes = text::sequence(&format!("{fresh} {rest}")).unwrap();
+    assert_eq!(run(&bytes).total, 1);
+    bytes.push(0);
+    assert_eq!(run(&bytes).total, 0);
+    bytes.resize(MOST_INPUT + RECORD, 0);
+    assert_eq!(run(&bytes).total, 0);
+    bytes.resize(MOST_INPUT, 0);
+    assert_eq!(run(&bytes).total, 1);
+}
+
+/// Of each made sequence: the total, the sources in all sets at the end and the new flags of the records carried out agree.
+#[test]
+fn totals_of_made_sequences() {
+    let (mut known, mut later) = (0, 0);
+    for place in 0..160 {
+        let sequence = make::sequence(22, place);
+        let outcome = run(&sequence);
+        let shown = print::dump(&sequence, &outcome);
+        let acts: Vec<(&str, &str)> =
+            shown.lines().filter_map(|line| line.strip_prefix("act ")?.split_once(' ')?.1.split_once(' ')).collect();
+        let new = |acts: &[(&str, &str)]| acts.iter().filter(|(_, new)| *new == "1").count();
+        let Some(end) = &outcome.floor else {
+            assert_eq!((outcome.total, acts.len()), (0, 0), "{place}");
+            continue;
+        };
+        assert_eq!(acts.len(), sequence.len() / RECORD - 1, "{place}");
+        let (carried_out, rest) = acts.split_at(outcome.ran);
+        assert!(carried_out.iter().all(|(answer, _)| *answer == "0"), "{place}");
+        assert!(rest.first().is_none_or(|(answer, _)| *answer == number(&outcome.answer).to_string()), "{place}");
+        assert_eq!((outcome.total, new(carried_out)), (sources(end), sources(end)), "{place}");
+        assert!(shown.contains(&format!("\nnew {}\n", outcome.total)), "{place}");
+        let records = sequence[RECORD..].chunks_exact(RECORD).take(outcome.ran);
+        known += records.filter(|record| record[0] == 4).count() - outcome.total;
+        later += new(rest);
+    }
+    // Some receive what they know already, and some go on after a refusal.
+    assert!(known >= 100 && later >= 100, "{known} {later}");
+}
+
 #[test]
 fn dump_shows_what_floor_does_not() {
-    let outcome = run(&text::sequence("opening 4 1 2 3 2 2; announce 2 1; receive 0 2 1").unwrap());
-    let shown = print::dump(&outcome);
-    let inner = shown.strip_prefix(&print::floor(&outcome)).unwrap();
-    assert_eq!(inner, "note 3 2 1 1\nnote 3 2 2 1\nnote 3 2 3 1\nreceived 0 1 4\nsent 2 2\n");
-    assert_eq!(print::dump(&run(&[])), "ran 0 answer 16\n");
+    let dump = |sequence: &[u8]| print::dump(sequence, &run(sequence));
+    let sequence = text::sequence("opening 4 1 2 3 2 2; announce 2 1; receive 0 2 1").unwrap();
+    let notes = "note 3 2 1 1\nnote 3 2 2 1\nnote 3 2 3 1\n";
+    let inner = format!("new 1\n{notes}received 0 1 4\nsent 2 2\nact 0 0 0\nact 1 0 1\n");
+    assert_eq!(dump(&sequence), print::floor(&run(&sequence)) + &inner);
+    assert_eq!(dump(&[]), "ran 0 answer 16\nnew 0\n");
+    assert_eq!(dump(&sequence[RECORD..]), "ran 0 answer 3\nnew 0\n");
+    // Each action by itself, though the run ends at the first that is refused: the second of these is not well formed.
+    let tried =
+        "opening 1 0 1 1 1 1; receive 0 0 0; delay 0; announce 0 0; receive 0 0 0; opening 1 0 1 1 1 1; delay 2; delay 1";
+    let mut sequence = text::sequence(tried).unwrap();
+    sequence[2 * RECORD] = 9;
+    let acts = "act 0 6 0\nact 1 3 0\nact 2 0 0\nact 3 0 1\nact 4 3 0\nact 5 13 0\nact 6 0 0\n";
+    assert_eq!(dump(&sequence), format!("ran 0 answer 6\nclock 0 pending 0\ndesk 0 good 0 0 -\nnew 0\n{acts}"));
 }

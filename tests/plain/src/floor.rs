@@ -1,6 +1,6 @@
 //! The floor: its desks, its waiting notes, and what each action does to them.
 
-use crate::answer::Refusal;
+use crate::answer::{Done, Refusal};
 use crate::record::{Action, Settings};
 
 pub const MOST_DESKS: u8 = 16;
@@ -88,46 +88,47 @@ impl Floor {
     }
 
     /// Carries out an action. A refusal leaves the floor as it was.
-    pub fn act(&mut self, action: Action) -> Result<(), Refusal> {
+    pub fn act(&mut self, action: Action) -> Result<Done, Refusal> {
+        let mut new = false;
         match action {
-            Action::Delay { ticks } => self.delay(ticks.into()),
+            Action::Delay { ticks } => self.delay(ticks.into())?,
             Action::Announce { desk, entry } => {
                 self.check_desk(desk)?;
                 self.check_entry(entry)?;
-                self.announce(desk, entry)
+                self.announce(desk, entry)?;
             }
             Action::PassOn { desk } => {
                 self.check_desk(desk)?;
-                self.pass_on(desk)
+                self.pass_on(desk)?;
             }
             Action::Accept { desk } => {
                 self.check_desk(desk)?;
                 self.accept(desk);
-                Ok(())
             }
             Action::Receive { desk, source, entry } => {
                 self.check_desk(desk)?;
                 self.check_desk(source)?;
                 self.check_entry(entry)?;
-                self.receive(desk, source, entry)
+                new = self.receive(desk, source, entry)?;
             }
             Action::Crash { desk } => {
                 self.check_desk(desk)?;
-                self.crash(desk)
+                self.crash(desk)?;
             }
             Action::ResetTimers { desk } => {
                 self.check_desk(desk)?;
-                self.reset_timers(desk)
+                self.reset_timers(desk)?;
             }
             Action::FalseNote { desk, destination, entry, time_out } => {
                 self.check_desk(desk)?;
                 self.check_desk(destination)?;
                 self.check_entry(entry)?;
-                self.false_note(Note { time_out: time_out.into(), source: desk, destination, entry })
+                self.false_note(Note { time_out: time_out.into(), source: desk, destination, entry })?;
             }
             // This floor is open already.
-            Action::Opening(_) => Err(Refusal::Form),
+            Action::Opening(_) => return Err(Refusal::Form),
         }
+        Ok(Done { new })
     }
 
     fn check_desk(&self, desk: u8) -> Result<(), Refusal> {
@@ -191,7 +192,8 @@ impl Floor {
         desk.listed |= desk.received_from(least);
     }
 
-    fn receive(&mut self, desk: u8, source: u8, entry: u8) -> Result<(), Refusal> {
+    /// Tells whether the source is new.
+    fn receive(&mut self, desk: u8, source: u8, entry: u8) -> Result<bool, Refusal> {
         let (place, _) = self
             .notes
             .iter()
@@ -201,8 +203,10 @@ impl Floor {
             .min_by_key(|(_, note)| note.time_out)
             .ok_or(Refusal::NoSuchNote)?;
         self.notes.remove(place);
-        self.desk(desk).received[usize::from(entry)] |= 1 << source;
-        Ok(())
+        let sources = &mut self.desk(desk).received[usize::from(entry)];
+        let new = *sources >> source & 1 == 0;
+        *sources |= 1 << source;
+        Ok(new)
     }
 
     fn crash(&mut self, desk: u8) -> Result<(), Refusal> {

@@ -1,9 +1,12 @@
 //! The second program:
 //!
 //! - `plain floor < SEQUENCE` prints what the program floor prints.
-//! - `plain dump < SEQUENCE` prints the same and then, for tests of the library: `note TIME-OUT SOURCE DESTINATION ENTRY` for
-//!   each waiting note in the order of the area; `received DESK ENTRY SET` for each set that is not empty; `sent DESK SET` for
-//!   each desk with a sent mark. A set is a decimal number whose bit i stands for the member i.
+//! - `plain dump < SEQUENCE` prints the same and then, for tests of the library: `new TOTAL`, how many sources the run added;
+//!   `note TIME-OUT SOURCE DESTINATION ENTRY` for each waiting note in the order of the area; `received DESK ENTRY SET` for each
+//!   set that is not empty; `sent DESK SET` for each desk with a sent mark; `act RECORD ANSWER NEW` for each record after the
+//!   opening, counted from 0, if the sequence opened. A set is a decimal number whose bit i stands for the member i. For the last
+//!   lines the actions are carried out once more, each by itself and those after a refused one too. NEW is 1 if a source was
+//!   added, or else 0.
 //! - `plain trace < SEQUENCE` prints what happens in the run, a line for each thing; trace.rs says how. tools/picture draws it.
 //! - `plain make SEED COUNT DIR` makes sequences to try and says how many of each sort.
 
@@ -35,7 +38,10 @@ fn fail(message: &str) -> ExitCode {
 fn command(arguments: &[&str]) -> Result<Vec<u8>, String> {
     match arguments {
         ["floor"] => Ok(print::floor(&run(&input()?)).into_bytes()),
-        ["dump"] => Ok(print::dump(&run(&input()?)).into_bytes()),
+        ["dump"] => {
+            let input = input()?;
+            Ok(print::dump(&input, &run(&input)).into_bytes())
+        }
         ["trace"] => {
             let input = input()?;
             Ok(trace::trace(&input, &run(&input)).into_bytes())

@@ -1,6 +1,6 @@
 //! A sequence in the making. Each action is tried on a floor first, so that the sequence goes as deep as it is meant to.
 
-use crate::answer::{number, Refusal};
+use crate::answer::{number, Done, Refusal};
 use crate::floor::{Floor, Note, MOST_CLOCK, MOST_NOTES};
 use crate::random::Random;
 use crate::record::{self, Action, Settings, RECORD};
@@ -88,7 +88,7 @@ impl Maker {
     }
 
     /// What the floor would answer.
-    pub fn answer(&self, action: Action) -> Result<(), Refusal> {
+    pub fn answer(&self, action: Action) -> Result<Done, Refusal> {
         self.floor.clone().act(action)
     }
 
@@ -381,7 +381,7 @@ impl Maker {
 
     /// Fills the area until the action just fits, or by so many notes just does not, and writes it. The desk is left out of the
     /// filling. Gives the action's answer.
-    pub fn press(&mut self, desk: u8, action: Action, too_many: usize) -> Result<(), Refusal> {
+    pub fn press(&mut self, desk: u8, action: Action, too_many: usize) -> Result<Done, Refusal> {
         let mut floor = self.floor.clone();
         let needed = if floor.act(action).is_ok() { floor.notes.len() - self.floor.notes.len() } else { 0 };
         self.fill(MOST_NOTES - needed + too_many.min(needed), desk);

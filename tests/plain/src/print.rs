@@ -1,7 +1,8 @@
 //! What is printed of an outcome.
 
-use crate::answer::number;
-use crate::floor::members;
+use crate::answer::{is_new, number};
+use crate::floor::{members, Floor};
+use crate::record::{self, RECORD};
 use crate::sequence::Outcome;
 use std::fmt::Write;
 
@@ -12,10 +13,12 @@ pub fn floor(outcome: &Outcome) -> String {
     out
 }
 
-/// The same, and then what floor keeps to itself: the notes in the order of the area, and the sets that are not empty.
-pub fn dump(outcome: &Outcome) -> String {
+/// The same of a sequence that came to this outcome, and then what floor keeps to itself: the total of the new sources, the
+/// notes in the order of the area, the sets that are not empty, and what each record's action tells by itself.
+pub fn dump(sequence: &[u8], outcome: &Outcome) -> String {
     let mut out = floor(outcome);
     inner_lines(outcome, &mut out).expect("a String takes every line");
+    act_lines(sequence, outcome, &mut out).expect("a String takes every line");
     out
 }
 
@@ -38,6 +41,7 @@ fn lines(outcome: &Outcome, out: &mut String) -> std::fmt::Result {
 }
 
 fn inner_lines(outcome: &Outcome, out: &mut String) -> std::fmt::Result {
+    writeln!(out, "new {}", outcome.total)?;
     let Some(floor) = &outcome.floor else { return Ok(()) };
     for note in &floor.notes {
         writeln!(out, "note {} {} {} {}", note.time_out, note.source, note.destination, note.entry)?;
@@ -49,6 +53,17 @@ fn inner_lines(outcome: &Outcome, out: &mut String) -> std::fmt::Result {
     }
     for (place, desk) in floor.desks.iter().enumerate().filter(|(_, desk)| desk.sent != 0) {
         writeln!(out, "sent {place} {}", desk.sent)?;
+    }
+    Ok(())
+}
+
+/// Carries the records out once more, each by itself: a refused one does not end it.
+fn act_lines(sequence: &[u8], outcome: &Outcome, out: &mut String) -> std::fmt::Result {
+    let Some(end) = &outcome.floor else { return Ok(()) };
+    let mut floor = Floor::open(end.settings).expect("the sequence was opened with them");
+    for (place, record) in sequence[RECORD..].chunks_exact(RECORD).enumerate() {
+        let told = record::read(record).and_then(|action| floor.act(action));
+        writeln!(out, "act {place} {} {}", number(&told), u8::from(is_new(&told)))?;
     }
     Ok(())
 }

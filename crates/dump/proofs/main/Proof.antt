@@ -33,6 +33,21 @@ slice-aggregate-all-lines-2 c = search needs
 all-lines-requires : tie.Need-all-lines-requires
 all-lines-requires c κs = omega arith
 
+slice-aggregate-acts : tie.Need-slice-aggregate-acts
+slice-aggregate-acts c = search needs
+
+slice-aggregate-acts-2 : tie.Need-slice-aggregate-acts-2
+slice-aggregate-acts-2 c = search needs
+
+array-share-prefix-input-2 : tie.Need-array-share-prefix-input-2
+array-share-prefix-input-2 c = search needs
+
+slice-aggregate-acts-3 : tie.Need-slice-aggregate-acts-3
+slice-aggregate-acts-3 c = search needs
+
+acts-requires : tie.Need-acts-requires
+acts-requires c κs = (omega arith, omega arith)
+
 array-share-prefix-out : tie.Need-array-share-prefix-out
 array-share-prefix-out c = omega arith
 
@@ -58,6 +73,11 @@ main-spec =
     slice-aggregate-all-lines
     slice-aggregate-all-lines-2
     all-lines-requires
+    slice-aggregate-acts
+    slice-aggregate-acts-2
+    array-share-prefix-input-2
+    slice-aggregate-acts-3
+    acts-requires
     array-share-prefix-out
     slice-aggregate-write-all
     write-all-requires
