@@ -1,18 +1,18 @@
 -- The call for one action: the move that a kind names, the checks that calls share, and its ways out. Assumes nothing.
 use mathlib.Core.Path.{_≡_, refl, sym, ap, _∙_, subst}
-use mathlib.Core.Bool.{Bool, true, false, not}
+use mathlib.Core.Bool.{Bool, true, false, not, false≢true}
 use mathlib.Core.List.{List, [], _∷_, _++_, append-nil}
 use mathlib.Core.Logic.{_≢_, ⊎-elim}
-use Prim.Native.Nat.{ℕ, _+_, _≤_}
+use Prim.Native.Nat.{ℕ, zero, suc, _+_, _≤_}
 use native.Mathlib.Omega.{arith}
 use lib.Dec.{eqb}
 use lib.ListN.{length, getD, List·getD-eq-default}
-use borrow.Author.Tests.{eq-eqb, ne-eqb, eqb-true, eqb-false}
+use borrow.Author.Tests.{eq-eqb, ne-eqb, eqb-true, eqb-false, not-false}
 use Rattle.sets.specs.Counting.{bit}
-use Rattle.sets.proofs.Tests.{was-true, was-false, decided}
-use Rattle.rules.specs.Rules.{Move, Check, unknown, answer, firstOf, mostNotes}
+use Rattle.sets.proofs.Tests.{was-true, was-false, decided, cond-both}
+use Rattle.rules.specs.Rules.{Move, delay, announce, passOn, accept, receive, crash, resetTimers, falseNote, unknown, Check, answer, next, firstOf, mostNotes}
 use Rattle.rules.specs.NewSources.{sizes}
-use Rattle.rules.proofs.CheckLaws.{first-none, first-fails, first-passes, not-zero}
+use Rattle.rules.proofs.CheckLaws.{first-none, first-fails, first-passes, zero-passed, not-zero}
 use Rattle.rules.proofs.Clauses.{answer-unknown}
 use Rattle.records.specs.Records.{wellFormed}
 use Rattle.records.specs.declared.Action.{Action}
@@ -22,9 +22,9 @@ use Rattle.floors.specs.declared.Floor.{Floor}
 use Rattle.shapes.specs.Shape.{inShapeAt}
 use Rattle.shapes.proofs.ShapeLaws.{shape-holds, holds-shape}
 use Rattle.moves.specs.declared.head.Head.{Head}
-use Rattle.moves.specs.Moves.{refusal, Told, noneNew, toldAt, held, left, answering}
-use Rattle.moves.proofs.Steps.{told-refused, refused}
-use Rattle.moves.proofs.StepLaws.{Fit, told-added}
+use Rattle.moves.specs.Moves.{Outcome, refusal, stepAt, Told, noneNew, toldAt, held, left, answering}
+use Rattle.moves.proofs.Steps.{step-refused, told-refused, refused}
+use Rattle.moves.proofs.StepLaws.{Fit, told-out, told-added, step-answer, step-next}
 use Rattle.actions.specs.Actions.{ofKind, moveOf, wrongArea, outOfShape, callChecks, acted}
 
 -- ---- the move that a kind names
@@ -40,6 +40,42 @@ kind-none x w h = rw w (List·getD-eq-default (ofKind x) unknown h)
 pub malformed : (x : Action) → wellFormed x ≡ false → moveOf x ≡ unknown
 unfolding moveOf
 malformed x w = rw w
+
+-- an announcement is what a well-formed action of kind 1 asks for, and no other
+module _ (x : Action) where
+  pub announce-move : wellFormed x ≡ true → x .kind ≡ 1 → moveOf x ≡ announce (x .desk .0) (x .entry .0)
+  unfolding ofKind
+  announce-move w e = kind-move x 1 w e
+
+  abbrev announces : Move → Bool
+  announces (delay t) = false
+  announces (announce i e) = true
+  announces (passOn i) = false
+  announces (accept j) = false
+  announces (receive j i e) = false
+  announces (crash i) = false
+  announces (resetTimers i) = false
+  announces (falseNote i j e t) = false
+  announces unknown = false
+
+  the-first : (kind : ℕ) → announces (getD (ofKind x) kind unknown) ≡ true → kind ≡ 1
+  unfolding ofKind
+  the-first zero h = absurd (false≢true h)
+  the-first (suc zero) h = refl
+  the-first (suc (suc zero)) h = absurd (false≢true h)
+  the-first (suc (suc (suc zero))) h = absurd (false≢true h)
+  the-first (suc (suc (suc (suc zero)))) h = absurd (false≢true h)
+  the-first (suc (suc (suc (suc (suc zero))))) h = absurd (false≢true h)
+  the-first (suc (suc (suc (suc (suc (suc zero)))))) h = absurd (false≢true h)
+  the-first (suc (suc (suc (suc (suc (suc (suc zero))))))) h = absurd (false≢true h)
+  the-first (suc (suc (suc (suc (suc (suc (suc (suc kind)))))))) h = absurd (false≢true h)
+
+  pub announce-kind : (i e : ℕ) → moveOf x ≡ announce i e → x .kind ≡ 1
+  announce-kind i e asks =
+      ⊎-elim
+      (λ w. the-first (x .kind) (ap announces (sym (kind-move x (x .kind) w refl) ∙ asks)))
+      (λ w. absurd (false≢true (ap announces (sym (malformed x w) ∙ asks))))
+      (decided (wellFormed x))
 
 -- a step, by the move that the action names
 pub by-move : (t : Told) (fl : Floor) (area : List ℕ) (x : Action) (m : Move) → moveOf x ≡ m → t ≡ toldAt fl area m → t ≡ toldAt fl area (moveOf x)
@@ -83,6 +119,11 @@ module _ (fl : Floor) (area : List ℕ) (cs : List Check) where
     unfolding callChecks
     call-passes y = area-passes area (outOfShape fl area ∷ cs) long ∙ first-passes 1 (not (inShapeAt fl area)) cs (ap not (was-true s y))
 
+-- where none of them refuses, the floor is in shape
+call-clear : (fl : Floor) (area : List ℕ) → firstOf (callChecks fl area) ≡ 0 → not (inShapeAt fl area) ≡ false
+unfolding callChecks
+call-clear fl area clear = zero-passed (callChecks fl area) (not-zero 15 refl, (not-zero 1 refl, tt)) clear .1 .0
+
 -- a call is refused with 15, or with 1, or the floor is one that a step may be made on
 pub call-either : {R : Type 0} (fl : Floor) (area : List ℕ) → Sized fl → (length area ≢ mostNotes → R) → (length area ≡ mostNotes → inShapeAt fl area ≡ false → R) → (Fit fl area → R) → R
 call-either fl area sized short unshaped fits =
@@ -123,6 +164,56 @@ module _ (fl : Floor) (area : List ℕ) (x : Action) where
   pub act-fits : Fit fl area → toldAt fl area (moveOf x) ≡ acted fl area x
   act-fits fit = act-step (fit .exact) true (sym (fit-shape fl area fit)) refl (toldAt fl area (moveOf x)) refl
 
+  -- it is refused by the checks of the call, or it is a step
+  act-both : (Q : Told → Type 0) → ((number : ℕ) → number ≢ 0 → Q (noneNew (refusal number fl area))) → (firstOf (callChecks fl area) ≡ 0 → Q (toldAt fl area (moveOf x))) → Q (acted fl area x)
+  unfolding acted
+  act-both Q refuses steps =
+      let number = firstOf (callChecks fl area) in
+      cond-both Q (eqb number 0) (toldAt fl area (moveOf x)) (noneNew (refusal number fl area)) (λ e. steps (eqb-true number 0 e)) (λ e. refuses number (eqb-false number 0 e))
+
+  told-answer : toldAt fl area (moveOf x) .out .answer ≡ answer (stateOf fl area) (moveOf x)
+  told-answer = ap (λ (o : Outcome). o .answer) (told-out fl area (moveOf x)) ∙ step-answer fl area (moveOf x)
+
+  -- what was carried out was carried out on a floor in shape, and by the rules
+  pub act-done : acted fl area x .out .answer ≡ 0 → (inShapeAt fl area ≡ true) × (answer (stateOf fl area) (moveOf x) ≡ 0)
+  act-done = act-both (λ (t : Told). t .out .answer ≡ 0 → (inShapeAt fl area ≡ true) × (answer (stateOf fl area) (moveOf x) ≡ 0)) (λ number some z. absurd (some z)) (λ clear z. (shaped clear, sym told-answer ∙ z))
+    where
+      shaped : firstOf (callChecks fl area) ≡ 0 → inShapeAt fl area ≡ true
+      shaped clear = not-false (inShapeAt fl area) (call-clear fl area clear)
+
+  -- "A refusal leaves floor and area as they were and gives the floor handed in"
+  pub act-refused : acted fl area x .out .answer ≢ 0 → acted fl area x .out ≡ refusal (acted fl area x .out .answer) fl area
+  act-refused = act-both Same (λ number some z. refl) (λ clear. subst (λ (o : Outcome). Same (record { new = false; out = o })) (sym (told-out fl area m)) stepped)
+    where
+      m : Move
+      m = moveOf x
+
+      Same : Told → Type 0
+      Same t = t .out .answer ≢ 0 → t .out ≡ refusal (t .out .answer) fl area
+
+      stepped : stepAt fl area m .answer ≢ 0 → stepAt fl area m ≡ refusal (stepAt fl area m .answer) fl area
+      stepped z =
+          let number = step-answer fl area m in
+          sym (step-refused fl area m (answer (stateOf fl area) m) (λ e. z (number ∙ e)) refl) ∙ ap (λ (n : ℕ). refusal n fl area) (sym number)
+
+  -- what asks for no action is refused, whatever the floor is
+  pub act-unknown : moveOf x ≡ unknown → acted fl area x .out .answer ≢ 0
+  act-unknown none z = not-zero 3 refl (sym (answer-unknown (stateOf fl area)) ∙ ap (answer (stateOf fl area)) (sym none) ∙ act-done z .1)
+
+  -- an action answers and leaves what the rules say, on a floor that the next may be made on
+  module _ (fit : Fit fl area) where
+    abbrev o : Outcome
+    o = acted fl area x .out
+
+    act-out : stepAt fl area (moveOf x) ≡ o
+    act-out = sym (told-out fl area (moveOf x)) ∙ ap (λ (t : Told). t .out) (act-fits fit)
+
+    pub act-answer : o .answer ≡ answer (stateOf fl area) (moveOf x)
+    act-answer = ap (λ (q : Outcome). q .answer) (sym act-out) ∙ step-answer fl area (moveOf x)
+
+    pub act-next : (stateOf (o .floor) (o .area) ≡ next (stateOf fl area) (moveOf x)) × Fit (o .floor) (o .area)
+    act-next = subst (λ (q : Outcome). (stateOf (q .floor) (q .area) ≡ next (stateOf fl area) (moveOf x)) × Fit (q .floor) (q .area)) act-out (step-next fl area (moveOf x) fit)
+
   -- what is told of an action is the source that all sets together have grown by
   abbrev Added : Told → Type 0
   Added t = sizes (t .out .floor .received) ≡ sizes (fl .received) + bit (t .new)
@@ -137,3 +228,12 @@ module _ (fl : Floor) (area : List ℕ) (x : Action) where
 
   pub act-added : Sized fl → (t : Told) → t ≡ acted fl area x → (t ≡ acted fl area x) × Added t
   act-added sized t e = (e, subst Added (sym e) (acted-added sized))
+
+-- actions that ask for the same move are one
+pub act-same : (fl : Floor) (area : List ℕ) (x y : Action) → moveOf x ≡ moveOf y → acted fl area x ≡ acted fl area y
+unfolding acted
+act-same fl area x y e = rw e
+
+-- an announcement that was carried out
+pub act-announces : (fl : Floor) (area : List ℕ) (x : Action) → acted fl area x .out .answer ≡ 0 → x .kind ≡ 1 → moveOf x ≡ announce (x .desk .0) (x .entry .0)
+act-announces fl area x z one = ⊎-elim (λ w. announce-move x w one) (λ w. absurd (act-unknown fl area x (malformed x w) z)) (decided (wellFormed x))

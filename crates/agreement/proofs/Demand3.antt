@@ -20,12 +20,15 @@ demand-3 k limits e below moves T announced late =
     spread (view e) (k .n) (k .f) (k .m) (k .p) (k .a) (Good k e) (laws k e below) (fresh k) (fresh-good k e limits) T (omega (arith, fresh-clock k)) moves
     (announcers (view e) T (fresh k) moves) (omega arith) (λ i l told. inr told) (omega arith)
 
+-- whatever more is done, who has announced by clock T has announced by it
+pub announced-more : (k : Settings) (e : ℕ) (moves more : List Move) (T : ℕ) → AnnouncedBy k e moves T → AnnouncedBy k e (moves ++ more) T
+announced-more k e moves more T announced =
+    le-trans announced
+    (count-mono (announcers (view e) T (fresh k) moves) (announcers (view e) T (fresh k) (moves ++ more)) (k .n)
+    (λ i l told. announced-stays (view e) T (fresh k) moves more i told))
+
 -- Read from where the announcements have been carried out: in every later state of the floor, whatever more is done.
 pub in-every-later-state : (k : Settings) → withinLimits k ≡ true → (e : ℕ) → e < k .u → (moves more : List Move) (T : ℕ)
     → AnnouncedBy k e moves T → LaterThanWait k T (floorAfter k (moves ++ more)) → OnEveryGoodList e (floorAfter k (moves ++ more))
 in-every-later-state k limits e below moves more T announced late =
-    demand-3 k limits e below (moves ++ more) T
-    (le-trans announced
-    (count-mono (announcers (view e) T (fresh k) moves) (announcers (view e) T (fresh k) (moves ++ more)) (k .n)
-    (λ i l told. announced-stays (view e) T (fresh k) moves more i told)))
-    late
+    demand-3 k limits e below (moves ++ more) T (announced-more k e moves more T announced) late

@@ -28,7 +28,7 @@ use Rattle.agreement.specs.Laws.{Laws}
 use Rattle.agreement.specs.Demand.{Live, Listed, Note, asks, announces, view}
 
 -- a move that asks for the announcement is the announcement
-asked : (e : ℕ) (m : Move) (i : ℕ) → asks e m i ≡ true → m ≡ announce i e
+pub asked : (e : ℕ) (m : Move) (i : ℕ) → asks e m i ≡ true → m ≡ announce i e
 asked e (announce a c) i h = rw (eqb-true a i (and-left (eqb a i) (eqb c e) h), eqb-true c e (and-right (eqb a i) (eqb c e) h))
 asked e (delay t) i h = absurd (false≢true h)
 asked e (passOn a) i h = absurd (false≢true h)

@@ -1,15 +1,15 @@
 -- How an entry spreads, from the laws of one act alone. D is a clock by which something has happened. Assumes nothing.
-use mathlib.Core.Path.{_≡_}
-use mathlib.Core.Bool.{Bool, true, _&&_, false≢true}
+use mathlib.Core.Path.{_≡_, sym, ap, _∙_}
+use mathlib.Core.Bool.{Bool, true, _&&_, _||_, or-assoc, or-false, false≢true}
 use mathlib.Core.Logic.{_⊎_, inl, inr, ⊎-elim}
 use mathlib.Core.List.{List, [], _∷_, _++_}
 use Prim.Native.Nat.{ℕ, _+_, _*_, _≤_, _<_}
 use native.Mathlib.Nat.{le-trans}
 use native.Mathlib.Omega.{arith}
 use lib.Dec.{leb}
-use borrow.Author.Tests.{leb-true}
+use borrow.Author.Tests.{leb-true, le-leb}
 use Rattle.sets.specs.Counting.{count}
-use Rattle.sets.proofs.Tests.{and-left, and-right, or-left, or-right, or-cases, le-or-lt}
+use Rattle.sets.proofs.Tests.{and-left, and-right, and-both, or-left, or-right, or-cases, le-or-lt}
 use Rattle.sets.proofs.CountLaws.{count-mono}
 use Rattle.agreement.specs.View.{View, after, announcers}
 use Rattle.agreement.specs.Laws.{Laws}
@@ -27,6 +27,29 @@ module _ (v : View) (T : ℕ) where
       (λ done. or-left now (announcers v T (next s a) (acts ++ more) i) done)
       (λ coming. or-right now (announcers v T (next s a) (acts ++ more) i) (announced-stays (next s a) acts more i coming))
       (or-cases now (announcers v T (next s a) acts i) h)
+
+  -- with one act more: what has been announced before it, and what it announces
+  pub announced-last : (s : State) (acts : List Act) (a : Act) (i : ℕ)
+      → announcers v T s (acts ++ a ∷ []) i ≡ (announcers v T s acts i || (leb (clock (after next s acts)) T && announces (after next s acts) a i))
+  unfolding announcers after
+  announced-last s [] a i = or-false (leb (clock s) T && announces s a i)
+  announced-last s (b ∷ acts) a i =
+      let now = leb (clock s) T && announces s b i in
+      ap (λ (later : Bool). now || later) (announced-last (next s b) acts a i) ∙ sym (or-assoc now (announcers v T (next s b) acts i) _)
+
+-- what has been announced by a clock has been announced by every later one
+pub announced-later : (v : View) (t T : ℕ) → t ≤ T → (s : v .State) (acts : List (v .Act)) (i : ℕ) → announcers v t s acts i ≡ true → announcers v T s acts i ≡ true
+unfolding announcers
+announced-later v t T l s [] i h = absurd (false≢true h)
+announced-later v t T l s (a ∷ acts) i h =
+    let early = leb (v .clock s) t in
+    let does = v .announces s a i in
+    let more = announcers v T (v .next s a) acts i in
+    ⊎-elim
+    (λ now. or-left (leb (v .clock s) T && does) more
+    (and-both (leb (v .clock s) T) does (le-leb (v .clock s) T (le-trans (leb-true (v .clock s) t (and-left early does now)) l)) (and-right early does now)))
+    (λ coming. or-right (leb (v .clock s) T && does) more (announced-later v t T l (v .next s a) acts i coming))
+    (or-cases (early && does) (announcers v t (v .next s a) acts i) h)
 
 module _ (v : View) (n f M P A : ℕ) (Good : v .State → Type 0) (laws : Laws v n f M P A Good) where
   open View v using (State, Act, next, clock, passTimer, acceptTimer, Live, has, Note, Sent, Listed, announces)

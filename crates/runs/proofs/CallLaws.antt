@@ -108,17 +108,23 @@ module _ (area bytes : List ℕ) where
   unfolding wholeWent
   whole-refused number some e = rw (e, some)
 
-  pub whole-15 : length area ≢ mostNotes → (fl : Floor) → fl ≡ noFloor → stopped 15 fl area ≡ wholeWent area bytes
+  pub number-15 : length area ≢ mostNotes → firstOf (wholeChecks area bytes) ≡ 15
   unfolding wholeChecks
-  whole-15 h fl q = rw q (whole-refused 15 refl (area-fails area _ h))
+  number-15 h = area-fails area _ h
+
+  pub whole-15 : length area ≢ mostNotes → (fl : Floor) → fl ≡ noFloor → stopped 15 fl area ≡ wholeWent area bytes
+  whole-15 h fl q = rw q (whole-refused 15 refl (number-15 h))
 
   module _ (long : length area ≡ mostNotes) where
     ragged : firstOf (wholeChecks area bytes) ≡ firstOf (16 when (eqb (length bytes) 0 || not (eqb (length bytes % 16) 0)) ∷ [])
     unfolding wholeChecks
     ragged = area-passes area _ long
 
+    pub number-16 : (eqb (length bytes) 0 || not (eqb (length bytes % 16) 0)) ≡ true → firstOf (wholeChecks area bytes) ≡ 16
+    number-16 h = ragged ∙ first-fails 16 (eqb (length bytes) 0 || not (eqb (length bytes % 16) 0)) [] h
+
     pub whole-16 : (eqb (length bytes) 0 || not (eqb (length bytes % 16) 0)) ≡ true → (fl : Floor) → fl ≡ noFloor → stopped 16 fl area ≡ wholeWent area bytes
-    whole-16 h fl q = rw q (whole-refused 16 refl (ragged ∙ first-fails 16 (eqb (length bytes) 0 || not (eqb (length bytes % 16) 0)) [] h))
+    whole-16 h fl q = rw q (whole-refused 16 refl (number-16 h))
 
     module _ (h : (eqb (length bytes) 0 || not (eqb (length bytes % 16) 0)) ≡ false) where
       -- one record at least, and none cut short
@@ -129,9 +135,12 @@ module _ (area bytes : List ℕ) where
           let more : length bytes ≢ 0 = eqb-false (length bytes) 0 some in
           (omega arith, full)
 
+      pub number-0 : firstOf (wholeChecks area bytes) ≡ 0
+      number-0 = ragged ∙ first-passes 16 (eqb (length bytes) 0 || not (eqb (length bytes % 16) 0)) [] h ∙ first-none
+
       first : wholeWent area bytes ≡ afterOpening (opened area (actionOf (take 16 bytes))) bytes
       unfolding wholeWent
-      first = rw (eq-eqb (firstOf (wholeChecks area bytes)) 0 (ragged ∙ first-passes 16 (eqb (length bytes) 0 || not (eqb (length bytes % 16) 0)) [] h ∙ first-none))
+      first = rw (eq-eqb (firstOf (wholeChecks area bytes)) 0 number-0)
 
       -- o is what the opening left
       module _ (o : Outcome) (is : o ≡ opened area (actionOf (take 16 bytes))) where

@@ -21,10 +21,10 @@ use Rattle.records.specs.declared.Action.{Action}
 use Rattle.floors.specs.Bridge.{settingsOf, stateOf, noFloor}
 use Rattle.floors.specs.declared.Floor.{Floor}
 use Rattle.floors.proofs.Bridge.{no-entries}
-use Rattle.moves.specs.Moves.{Outcome, Told}
-use Rattle.moves.proofs.StepLaws.{Fit, told-out, step-next}
+use Rattle.moves.specs.Moves.{Outcome}
+use Rattle.moves.proofs.StepLaws.{Fit}
 use Rattle.actions.specs.Actions.{opened, settingsIn, moveOf, acted}
-use Rattle.actions.proofs.Calls.{act-fits}
+use Rattle.actions.proofs.Calls.{act-next}
 use Rattle.actions.proofs.Openings.{opened-state, opened-fit, limits}
 use Rattle.runs.specs.Runs.{movesFrom, Went, wentFrom, went, unbegun, wholeWent}
 use Rattle.runs.specs.Calls.{Call, one, many, leaves, movesOf, leftBy, allMoves}
@@ -47,10 +47,8 @@ module _ (fl : Floor) (area : List ℕ) (fit : Fit fl area) where
 
   one-leads : (x : Action) → Leads s (moveOf x ∷ []) (acted fl area x .out)
   one-leads x =
-      let (state, left) = step-next fl area (moveOf x) fit in
-      subst (Leads s (moveOf x ∷ []))
-      (sym (told-out fl area (moveOf x)) ∙ ap (λ (t : Told). t .out) (act-fits fl area x fit))
-      (record { state = state ∙ sym (after-next s (moveOf x) [] ∙ after-none (next s (moveOf x))); fit = left })
+      let (state, left) = act-next fl area x fit in
+      record { state = state ∙ sym (after-next s (moveOf x) [] ∙ after-none (next s (moveOf x))); fit = left }
 
   same-leads : (bytes : List ℕ) (most left : ℕ) (w : Went) → Same 0 0 w (run most s (movesFrom bytes 0 left)) → Leads s (movesFrom bytes 0 (w .count)) (w .out)
   same-leads bytes most left w same =

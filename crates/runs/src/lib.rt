@@ -5,7 +5,7 @@ use floors::Floor;
 use floors::Settings;
 use moves::head::Head;
 use moves::head::answered;
-use shapes::in_shape;
+use shapes::floor_in_shape;
 ghost use mathlib.Core.Path.{_≡_};
 ghost use mathlib.Core.Bool.{true};
 ghost use Prim.Native.Nat.{_≤_, _+_, _*_, min};
@@ -127,32 +127,6 @@ fn least(a: usize, b: usize) -> usize
     if a < b { a } else { b }
 }
 
-// Whether a floor handed in is in shape.
-fn shape_holds(floor: Floor, area: &[u64]) -> bool
-    requires { ⌜ length (now area) ≡ mostNotes ⌝ }
-    ensures { λ r. ⌜ r ≡ inShapeAt floor (now (area .entry)) ⌝ }
-{
-    let settings = floor.settings;
-    let faulty = floor.faulty;
-    let pass = floor.pass;
-    let accept = floor.accept;
-    let listed = floor.listed;
-    let sent = floor.sent;
-    let received = floor.received;
-    in_shape(
-        settings,
-        floor.clock,
-        floor.waiting,
-        &faulty,
-        &pass,
-        &accept,
-        &listed,
-        &sent,
-        &received,
-        area,
-    )
-}
-
 // A run on a floor: at most `most` records, up to the first that is refused.
 pub fn run(floor: Floor, area: &mut [u64], sequence: &[u8], most: usize) -> Ran
     ensures { λ r. ⌜ (record { count = r .count; total = r .total; out = record { answer = r .answer; floor = r .floor; area = now (area .exit) } } ≡ went floor (now (area .entry)) (now (sequence .entry)) most)
@@ -166,7 +140,7 @@ pub fn run(floor: Floor, area: &mut [u64], sequence: &[u8], most: usize) -> Ran
             floor: floor,
         };
     }
-    if !shape_holds(floor, area) {
+    if !floor_in_shape(floor, area) {
         return Ran {
             count: 0,
             total: 0,

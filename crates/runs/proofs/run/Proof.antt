@@ -14,8 +14,8 @@ sized c = record { faulty = search needs; pass = search needs; accept = search n
 returns : tie.Need-returns
 returns c = run-added _ (sized (c .before .before .before)) _ _ _ _ (search run-15)
 
-shape-holds-requires : tie.Need-shape-holds-requires
-shape-holds-requires c κs = search needs
+floor-in-shape-requires : tie.Need-floor-in-shape-requires
+floor-in-shape-requires c κs = search needs
 
 same-length : tie.Need-same-length
 same-length c = search needs
@@ -38,7 +38,7 @@ run-records-requires c κs =
     let shaped = even .before in
     let inside = shaped .before .before .before in
     let start = inside .before .before .before in
-    (was-true (shaped .before .shape-holds .ensures) (shaped .if2 .left), inside .if1 .left, limit-fits (start .args .sequence .now) _ _ (c .before .least .ensures))
+    (was-true (shaped .before .floor-in-shape .ensures) (shaped .if2 .left), inside .if1 .left, limit-fits (start .args .sequence .now) _ _ (c .before .least .ensures))
 
 same-length-3 : tie.Need-same-length-3
 same-length-3 c = search needs
@@ -50,14 +50,14 @@ returns-4 c =
     let shaped = even .before in
     let inside = shaped .before .before .before in
     run-added _ (sized (inside .before .before .before)) _ _ _ _
-    (run-0 _ _ _ _ (inside .if1 .left) _ (shaped .before .shape-holds .ensures) (shaped .if2 .left) (even .if3 .left) _ (ran .before .before .least .ensures) _ (ran .run-records .ensures))
+    (run-0 _ _ _ _ (inside .if1 .left) _ (shaped .before .floor-in-shape .ensures) (shaped .if2 .left) (even .if3 .left) _ (ran .before .before .least .ensures) _ (ran .run-records .ensures))
 
 pub run-spec : {M : Type 1} → statement M
 run-spec =
     tie.close
     (tie.spec
     returns
-    shape-holds-requires
+    floor-in-shape-requires
     same-length
     returns-2
     same-length-2

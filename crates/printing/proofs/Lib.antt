@@ -1,0 +1,3 @@
+pub mod EntryLaws
+pub mod ShapeLaws
+pub mod HoldLaws

@@ -1,0 +1,52 @@
+-- Actions and prints on a hold, one after another, refused ones among them; and what the rules' run says of them. Assumes nothing.
+use mathlib.Core.Bool.{cond, _&&_}
+use mathlib.Core.List.{List, [], _∷_}
+use Prim.Native.Nat.{ℕ, _+_, _≤_}
+use lib.Dec.{eqb}
+use Rattle.sets.specs.Counting.{bit}
+use Rattle.rules.specs.Rules.{Settings, Move}
+use Rattle.agreement.specs.Demand.{floorAfter, AnnouncedBy, LaterThanWait}
+use Rattle.records.specs.declared.Action.{Action}
+use Rattle.actions.specs.Actions.{moveOf}
+use Rattle.printing.specs.declared.Hold.{Hold}
+use Rattle.printing.specs.Holding.{Holding, took, printed}
+
+pub data Step : Type 0 where
+  action : Action → Step
+  print : ℕ → Step
+
+unfoldable pub stepped : Hold → List ℕ → Step → Holding
+stepped h area (action x) = took h area x
+stepped h area (print e) = printed h area e
+
+-- each step is made on the hold and the area that the one before it left
+unfoldable pub leftBy : Holding → List Step → Holding
+leftBy o [] = o
+leftBy o (step ∷ steps) = leftBy (stepped (o .hold) (o .area) step) steps
+
+-- the moves that the steps ask of the floor: a print asks for none
+unfoldable pub movesOf : List Step → List Move
+movesOf [] = []
+movesOf (action x ∷ steps) = moveOf x ∷ movesOf steps
+movesOf (print e ∷ steps) = movesOf steps
+
+-- how many prints of entry e are carried out
+abbrev pub isPrintOf : ℕ → Step → ℕ → ℕ
+isPrintOf e (action x) number = 0
+isPrintOf e (print c) number = bit (eqb number 0 && eqb c e)
+
+unfoldable pub timesPrinted : ℕ → Holding → List Step → ℕ
+timesPrinted e o [] = 0
+timesPrinted e o (step ∷ steps) =
+    let next = stepped (o .hold) (o .area) step in
+    isPrintOf e step (next .answer) + timesPrinted e next steps
+
+-- ---- of the rules' run, in the words of demand 3
+
+-- T is the first clock by which f+1 different desks have carried out an announcement of entry e
+abbrev pub FirstBy : Settings → ℕ → List Move → ℕ → Type 0
+FirstBy k e moves T = AnnouncedBy k e moves T × ((t : ℕ) → AnnouncedBy k e moves t → T ≤ t)
+
+-- by some clock they have, and the state is later than that by more than the wait
+abbrev pub WaitIsOver : Settings → ℕ → List Move → Type 0
+WaitIsOver k e moves = (T : ℕ) × AnnouncedBy k e moves T × LaterThanWait k T (floorAfter k moves)
