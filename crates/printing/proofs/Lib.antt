@@ -1,3 +1,4 @@
 pub mod EntryLaws
 pub mod ShapeLaws
 pub mod HoldLaws
+pub mod WholeLaws

@@ -1,5 +1,12 @@
 -- `printing::whole::take_record` meets its contract. Assumes nothing.
 use borrow.Author.Needs.{needs}
+use mathlib.Core.Path.{ap, _∙_}
+use native.Mathlib.Omega.{arith}
+use Rattle.records.specs.declared.Action.{Action}
+use Rattle.runs.proofs.RunLaws.{record-good, record-bad}
+use Rattle.printing.specs.Holding.{took}
+use Rattle.printing.proofs.HoldLaws.{took-unknown}
+use Rattle.printing.proofs.WholeLaws.{no-action}
 use Rattle.printing.proofs.whole.take_record.Statement.{statement}
 use Rattle.printing.proofs.whole.take_record.Tie as tie
 
@@ -13,7 +20,10 @@ same-length : tie.Need-same-length
 same-length c = search needs
 
 returns : tie.Need-returns
-returns c = ?
+returns c =
+    let read = c .before .before .before .before .before .before in
+    let start = read .before .before .before in
+    c .before .before .take .ensures ∙ took-unknown _ _ _ _ (no-action _ (omega arith)) (record-bad _ _ (read .read .ensures) (start .pre) (c .before .before .before .before .if1 .taken))
 
 take-requires-2 : tie.Need-take-requires-2
 take-requires-2 c κs = search needs
@@ -22,7 +32,9 @@ same-length-2 : tie.Need-same-length-2
 same-length-2 c = search needs
 
 returns-2 : tie.Need-returns-2
-returns-2 c = ?
+returns-2 c =
+    let read = c .before .before .before .before .before .before in
+    c .before .before .take2 .ensures ∙ ap (took _ _) (record-good _ _ (read .read .ensures) (c .before .before .before .before .if1 .left) .1)
 
 pub take-record-spec : {M : Type 1} → statement M
 take-record-spec =

@@ -1,0 +1,109 @@
+-- A whole sequence on a hold: record by record, and its ways out. Assumes nothing.
+use mathlib.Core.Path.{_≡_, refl, sym, ap, _∙_}
+use mathlib.Core.Bool.{false, not, _||_}
+use mathlib.Core.List.{List}
+use mathlib.Core.Logic.{_≢_, ⊎-elim}
+use Prim.Native.Nat.{ℕ, suc, _+_, _-_, _*_, _/_, _%_, _≤_, _<_, zero-le}
+use native.Mathlib.Numerals.{add-one}
+use native.Mathlib.Omega.{arith}
+use lib.Dec.{eqb}
+use lib.ListN.{length, take, drop}
+use borrow.Author.Tests.{eq-eqb, ne-eqb}
+use Rattle.sets.proofs.Tests.{decided}
+use Rattle.rules.specs.Rules.{unknown, firstOf, mostNotes}
+use Rattle.records.specs.Records.{wellFormed, actionOf, recordAt}
+use Rattle.records.specs.declared.Action.{Action}
+use Rattle.floors.specs.Bridge.{noFloor}
+use Rattle.floors.specs.declared.Floor.{Floor}
+use Rattle.actions.specs.Actions.{moveOf, opened}
+use Rattle.actions.proofs.Calls.{kind-none, malformed}
+use Rattle.runs.specs.Runs.{wholeChecks}
+use Rattle.runs.proofs.CallLaws.{tail, number-15, number-16, number-0, records-there}
+use Rattle.printing.specs.declared.Hold.{Hold}
+use Rattle.printing.specs.Holding.{newHold, Holding, refusing, openedHold, took}
+use Rattle.printing.specs.Whole.{Taken, takenFrom, takenAfter, wholeTaken}
+
+-- a kind that no floor knows asks for no action
+pub no-action : (x : Action) → 8 ≤ x .kind → moveOf x ≡ unknown
+no-action x high = ⊎-elim (λ w. kind-none x w high) (malformed x) (decided (wellFormed x))
+
+-- ---- record by record
+
+module _ (h : Hold) (area bytes : List ℕ) where
+  pub taken-none : (k : ℕ) → takenFrom 0 h area bytes k ≡ record { count = k; out = record { answer = 0; hold = h; area = area } }
+  unfolding takenFrom
+  taken-none k = refl
+
+  -- o is what record k left
+  module _ (n k : ℕ) (o : Holding) (is : o ≡ took h area (actionOf (recordAt bytes k))) where
+    pub taken-next : o .answer ≡ 0 → takenFrom (suc n) h area bytes k ≡ takenFrom n (o .hold) (o .area) bytes (k + 1)
+    unfolding takenFrom
+    taken-next z = rw (← is, eq-eqb (o .answer) 0 z, add-one)
+
+    pub taken-stop : o .answer ≢ 0 → takenFrom (suc n) h area bytes k ≡ record { count = k; out = o }
+    unfolding takenFrom
+    taken-stop z = rw (← is, ne-eqb (o .answer) 0 z)
+
+-- after `count` records of at most `limit`, the rest from here is what is left of all
+pub record Going (limit : ℕ) (bytes : List ℕ) (all : Taken) (h : Hold) (area : List ℕ) (answer count : ℕ) : Type 0 where
+  pub upto : count ≤ limit
+  pub calm : answer ≡ 0
+  pub rest : all ≡ takenFrom (limit - count) h area bytes count
+
+pub going-start : (h : Hold) (area : List ℕ) (limit : ℕ) (bytes : List ℕ) → Going limit bytes (takenFrom limit h area bytes 0) h area 0 0
+going-start h area limit bytes = record { upto = zero-le; calm = refl; rest = ap (λ (n : ℕ). takenFrom n h area bytes 0) (let q : limit ≡ limit - 0 = omega arith in q) }
+
+module _ (limit : ℕ) (bytes : List ℕ) (all : Taken) (h : Hold) (area : List ℕ) (answer count : ℕ) (g : Going limit bytes all h area answer count) where
+  pub going-end : limit ≤ count → record { count = count; out = record { answer = answer; hold = h; area = area } } ≡ all
+  going-end e =
+      let z : limit - count ≡ 0 = omega arith in
+      sym
+      (g .rest ∙ ap (λ (n : ℕ). takenFrom n h area bytes count) z ∙ taken-none h area bytes count
+      ∙ ap (λ (n : ℕ). let r : Taken = record { count = count; out = record { answer = n; hold = h; area = area } } in r) (sym (g .calm)))
+
+  -- the next record is taken, and leaves o
+  module _ (part : List ℕ) (is-part : part ≡ take 16 (drop (16 * count) bytes)) (o : Holding) (more : count < limit) (e : o ≡ took h area (actionOf part)) where
+    is : o ≡ took h area (actionOf (recordAt bytes count))
+    is = e ∙ ap (λ (y : List ℕ). took h area (actionOf y)) is-part
+
+    one-less : limit - count ≡ suc (limit - (count + 1))
+    one-less = omega arith
+
+    here : all ≡ takenFrom (suc (limit - (count + 1))) h area bytes count
+    here = g .rest ∙ ap (λ (n : ℕ). takenFrom n h area bytes count) one-less
+
+    pub going-next : o .answer ≡ 0 → Going limit bytes all (o .hold) (o .area) (o .answer) (count + 1)
+    going-next z = record { upto = omega arith; calm = z; rest = here ∙ taken-next h area bytes (limit - (count + 1)) count o is z }
+
+    pub going-stop : o .answer ≢ 0 → record { count = count; out = o } ≡ all
+    going-stop z = sym (here ∙ taken-stop h area bytes (limit - (count + 1)) count o is z)
+
+-- ---- a whole sequence
+
+-- an opening by the library's
+pub opened-alike : (area : List ℕ) (x y : Action) → opened area x ≡ opened area y → openedHold area x ≡ openedHold area y
+unfolding openedHold
+opened-alike area x y e = rw e
+
+module _ (area bytes : List ℕ) where
+  -- fl is the floor of zeros, and h the hold of it
+  pub taken-refused : (number : ℕ) → eqb number 0 ≡ false → firstOf (wholeChecks area bytes) ≡ number → (fl : Floor) → fl ≡ noFloor → (h : Hold) → h ≡ newHold fl
+      → record { count = 0; out = refusing number h area } ≡ wholeTaken area bytes
+  unfolding wholeTaken
+  taken-refused number some e fl none h new = rw (e, some, new, none)
+
+  module _ (long : length area ≡ mostNotes) (h : (eqb (length bytes) 0 || not (eqb (length bytes % 16) 0)) ≡ false) where
+    first : wholeTaken area bytes ≡ takenAfter (openedHold area (actionOf (take 16 bytes))) bytes
+    unfolding wholeTaken
+    first = rw (eq-eqb (firstOf (wholeChecks area bytes)) 0 (number-0 area bytes long h))
+
+    -- o is what the opening left
+    module _ (o : Holding) (is : o ≡ openedHold area (actionOf (take 16 bytes))) where
+      pub taken-unopened : o .answer ≢ 0 → record { count = 0; out = o } ≡ wholeTaken area bytes
+      unfolding takenAfter
+      taken-unopened z = sym (first ∙ rw (← is, ne-eqb (o .answer) 0 z))
+
+      pub taken-opened : o .answer ≡ 0 → (t : Taken) → t ≡ takenFrom (length bytes / 16 - 1) (o .hold) (o .area) (take (length bytes - 16) (drop 16 bytes)) 0 → t ≡ wholeTaken area bytes
+      unfolding takenAfter
+      taken-opened z t e =
+          sym (first ∙ rw (← is, eq-eqb (o .answer) 0 z) (sym (e ∙ ap (λ (b : List ℕ). takenFrom (length bytes / 16 - 1) (o .hold) (o .area) b 0) (tail bytes 16 (records-there area bytes long h .0)))))
