@@ -1,8 +1,8 @@
 // The moves that post notes: announce, pass on, and a faulty desk's false note. Whether there is room is decided
 // before anything is changed: `posting` answers how many notes would wait.
-use crate::head::Head;
-use crate::head::answered;
 use floors::Settings;
+use moves::head::Head;
+use moves::head::answered;
 use sets::DeskNo;
 use sets::EntryNo;
 use sets::EntrySet;

@@ -1,8 +1,8 @@
--- `moves::sending::false_note_by` meets its contract. Assumes nothing.
-use Rattle.moves.proofs.SendingMoves.{false-4, false-4′, false-5, false-8, false-10, false-10′, false-11, false-0}
+-- `sending::false_note_by` meets its contract. Assumes nothing.
+use Rattle.sending.proofs.SendingMoves.{false-4, false-4′, false-5, false-8, false-10, false-10′, false-11, false-0}
 use borrow.Author.Needs.{needs}
-use Rattle.moves.proofs.sending.false_note_by.Statement.{statement}
-use Rattle.moves.proofs.sending.false_note_by.Tie as tie
+use Rattle.sending.proofs.false_note_by.Statement.{statement}
+use Rattle.sending.proofs.false_note_by.Tie as tie
 
 answered-requires : tie.Need-answered-requires
 answered-requires c κs = search needs

@@ -1,9 +1,9 @@
--- `moves::sending::pass_on_by` meets its contract. Assumes nothing.
-use Rattle.moves.proofs.SendingMoves.{pass-4, pass-11, pass-0}
+-- `sending::pass_on_by` meets its contract. Assumes nothing.
+use Rattle.sending.proofs.SendingMoves.{pass-4, pass-11, pass-0}
 use native.Mathlib.Omega.{arith}
 use borrow.Author.Needs.{needs}
-use Rattle.moves.proofs.sending.pass_on_by.Statement.{statement}
-use Rattle.moves.proofs.sending.pass_on_by.Tie as tie
+use Rattle.sending.proofs.pass_on_by.Statement.{statement}
+use Rattle.sending.proofs.pass_on_by.Tie as tie
 
 -- the places before the posting
 abbrev due-set : tie.After-post-broadcasts → tie.After-due

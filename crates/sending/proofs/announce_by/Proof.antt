@@ -1,8 +1,8 @@
--- `moves::sending::announce_by` meets its contract. Assumes nothing.
-use Rattle.moves.proofs.SendingMoves.{announce-4, announce-5, announce-again, announce-11, announce-0}
+-- `sending::announce_by` meets its contract. Assumes nothing.
+use Rattle.sending.proofs.SendingMoves.{announce-4, announce-5, announce-again, announce-11, announce-0}
 use borrow.Author.Needs.{needs}
-use Rattle.moves.proofs.sending.announce_by.Statement.{statement}
-use Rattle.moves.proofs.sending.announce_by.Tie as tie
+use Rattle.sending.proofs.announce_by.Statement.{statement}
+use Rattle.sending.proofs.announce_by.Tie as tie
 
 answered-requires : tie.Need-answered-requires
 answered-requires c κs = search needs
