@@ -4,6 +4,7 @@
 
 pub mod answer;
 pub mod floor;
+pub mod hold;
 pub mod make;
 pub mod moves;
 pub mod print;
@@ -14,6 +15,8 @@ pub mod trace;
 
 #[cfg(test)]
 mod cases;
+#[cfg(test)]
+mod hold_cases;
 #[cfg(test)]
 mod text;
 
