@@ -2,9 +2,9 @@
 
 use crate::answer::number;
 use crate::hold::{after, Hold};
-use crate::record::{Action, Settings};
+use crate::record::{self, Action, Settings, RECORD};
 use crate::sequence::Outcome;
-use crate::{print, run, text};
+use crate::{make, print, run, text};
 
 const SMALL: Settings = Settings { desks: 4, faults: 1, entries: 2, message: 3, pass_on: 2, accept: 2 };
 
@@ -198,4 +198,55 @@ fn noted_desks_are_a_set() {
     let lines = shown(print::stickers, &sequence);
     assert!(lines.starts_with("ran 4 answer 0\nclock 0 pending 12\nentry 1 noted 0 from 11 wait\ntake 0 0\n"), "{lines}");
     assert!(lines.ends_with("print 0 17\nnoted 0 4 0 0\nnoted 1 9 0 0\n"), "{lines}");
+}
+
+/// How often a sticker was tried at the last clock of its wait, and at the tick after it.
+#[derive(Default)]
+struct Edges {
+    last: usize,
+    next: usize,
+}
+
+impl Edges {
+    /// Looks at one try, which was answered so.
+    fn look(&mut self, hold: &Hold, entry: u8, answer: &str) {
+        if answer == "0" {
+            let mut good = hold.floor.desks.iter().filter(|desk| !desk.faulty);
+            assert!(good.all(|desk| desk.listed >> entry & 1 == 1), "printed too early");
+        }
+        let Some(noted) = hold.noted(entry) else { return };
+        let last = noted + hold.floor.settings.wait();
+        if hold.floor.clock == last {
+            assert_eq!(answer, "17");
+            self.last += 1;
+        } else if hold.floor.clock == last + 1 {
+            assert!(answer == "0" || answer == "18");
+            self.next += 1;
+        }
+    }
+}
+
+/// The made sequences come to both sides of the end of a wait, and what is printed is on every good desk's list.
+#[test]
+fn made_sequences() {
+    let mut edges = Edges::default();
+    for place in 0..480 {
+        let sequence = make::sequence(23, place);
+        let outcome = run(&sequence);
+        let Some(end) = &outcome.floor else { continue };
+        let mut hold = Hold::open(end.settings).unwrap();
+        let mut records = sequence[RECORD..].chunks_exact(RECORD);
+        for line in print::stickers(&sequence, &outcome).lines() {
+            match line.split(' ').collect::<Vec<&str>>()[..] {
+                ["take", _, answer] => {
+                    let taken = record::read(records.next().unwrap()).and_then(|action| hold.take(action));
+                    assert_eq!(answer, number(&taken).to_string());
+                }
+                ["print", entry, answer] => edges.look(&hold, entry.parse().unwrap(), answer),
+                _ => {}
+            }
+        }
+        assert!(records.next().is_none());
+    }
+    assert!(edges.last >= 200 && edges.next >= 200, "{} {}", edges.last, edges.next);
 }

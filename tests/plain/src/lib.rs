@@ -12,6 +12,7 @@ pub mod random;
 pub mod record;
 pub mod sequence;
 pub mod trace;
+pub mod waits;
 
 #[cfg(test)]
 mod cases;
