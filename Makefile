@@ -25,7 +25,7 @@ check:
 COUNT = 20000
 
 compare:
-	@rt check floor dump >&2
+	@rt check floor dump hold stickers >&2
 	@tests/compare --count $(COUNT) $(if $(SEED),--seed $(SEED))
 
 # How often each row is measured; the best counts.

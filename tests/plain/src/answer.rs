@@ -18,6 +18,8 @@ pub enum Refusal {
     PastTimer = 13,
     PastClock = 14,
     Length = 16,
+    WaitNotOver = 17,
+    AlreadyPrinted = 18,
 }
 
 impl Refusal {
@@ -38,6 +40,8 @@ impl Refusal {
             Refusal::PastTimer => "a desk has to pass on or accept first",
             Refusal::PastClock => "past the last tick of the clock",
             Refusal::Length => "no records, not whole ones, or too many",
+            Refusal::WaitNotOver => "the wait is not over, or has not begun",
+            Refusal::AlreadyPrinted => "the sticker is printed already",
         }
     }
 }

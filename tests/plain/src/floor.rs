@@ -139,7 +139,7 @@ impl Floor {
         }
     }
 
-    fn check_entry(&self, entry: u8) -> Result<(), Refusal> {
+    pub fn check_entry(&self, entry: u8) -> Result<(), Refusal> {
         if entry < self.settings.entries {
             Ok(())
         } else {

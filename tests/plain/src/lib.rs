@@ -4,6 +4,7 @@
 
 pub mod answer;
 pub mod floor;
+pub mod hold;
 pub mod make;
 pub mod moves;
 pub mod print;
@@ -11,9 +12,12 @@ pub mod random;
 pub mod record;
 pub mod sequence;
 pub mod trace;
+pub mod waits;
 
 #[cfg(test)]
 mod cases;
+#[cfg(test)]
+mod hold_cases;
 #[cfg(test)]
 mod text;
 

@@ -7,6 +7,12 @@
 //!   opening, counted from 0, if the sequence opened. A set is a decimal number whose bit i stands for the member i. For the last
 //!   lines the actions are carried out once more, each by itself and those after a refused one too. NEW is 1 if a source was
 //!   added, or else 0.
+//! - `plain hold < SEQUENCE` prints what the program hold prints: the first two lines of floor, and then `entry ENTRY noted CLOCK
+//!   from CLOCK WORD` for each entry whose wait has begun. WORD is `print` if its sticker may be printed now, or else `wait`.
+//! - `plain stickers < SEQUENCE` prints the same and then, if the sequence opened, what comes of the actions taken once more, those
+//!   after a refused one too: `take RECORD ANSWER` for each record after the opening, counted from 0, and below it `print ENTRY
+//!   ANSWER` for each sticker that is tried after it. At the end comes `noted ENTRY SET CLOCK PRINTED` for each entry that was
+//!   announced. SET is that of the desks that announced it, CLOCK is 0 if none is noted, and PRINTED is 1 or 0.
 //! - `plain trace < SEQUENCE` prints what happens in the run, a line for each thing; trace.rs says how. tools/picture draws it.
 //! - `plain make SEED COUNT DIR` makes sequences to try and says how many of each sort.
 
@@ -15,7 +21,7 @@ use std::io::{self, Read, Write};
 use std::path::Path;
 use std::process::ExitCode;
 
-const USAGE: &str = "usage: plain floor|dump|trace < SEQUENCE, or plain make SEED COUNT DIR";
+const USAGE: &str = "usage: plain floor|dump|hold|stickers|trace < SEQUENCE, or plain make SEED COUNT DIR";
 
 fn main() -> ExitCode {
     let arguments: Vec<String> = std::env::args().skip(1).collect();
@@ -41,6 +47,14 @@ fn command(arguments: &[&str]) -> Result<Vec<u8>, String> {
         ["dump"] => {
             let input = input()?;
             Ok(print::dump(&input, &run(&input)).into_bytes())
+        }
+        ["hold"] => {
+            let input = input()?;
+            Ok(print::hold(&input, &run(&input)).into_bytes())
+        }
+        ["stickers"] => {
+            let input = input()?;
+            Ok(print::stickers(&input, &run(&input)).into_bytes())
         }
         ["trace"] => {
             let input = input()?;

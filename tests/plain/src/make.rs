@@ -18,6 +18,8 @@ enum Sort {
     Deep,
     /// An area that is full or nearly.
     Full,
+    /// A run to the last clock at which a sticker is refused, and a tick further.
+    Wait,
     /// A deep run that ends with the refusal of this number.
     Refused(u8),
     /// A short run with such an end: those refusals need many sequences that are as different as their checks.
@@ -42,9 +44,10 @@ enum Sort {
 }
 
 /// Each sort, and how often it comes in a turn.
-const SORTS: [(Sort, usize); 25] = [
+const SORTS: [(Sort, usize); 26] = [
     (Sort::Deep, 8),
     (Sort::Full, 7),
+    (Sort::Wait, 12),
     (Sort::Refused(3), 2),
     (Sort::Refused(4), 2),
     (Sort::Refused(5), 2),
@@ -116,6 +119,7 @@ fn make(sort: Sort, mut random: Random) -> Vec<u8> {
             deep(random, settings).bytes
         }
         Sort::Full => full(random, false),
+        Sort::Wait => wait(random),
         Sort::Refused(11) => full(random, true),
         Sort::Refused(want) => refused(random, want, deep),
         Sort::Short => {
@@ -218,6 +222,16 @@ fn short(random: Random, settings: Settings) -> Maker {
 fn some_good(mut random: Random) -> Vec<u8> {
     let settings = some_settings(&mut random);
     deep(random, settings).bytes
+}
+
+fn wait(mut random: Random) -> Vec<u8> {
+    let mut settings = some_settings(&mut random);
+    while !settings.wait_is_short() {
+        settings = if random.one_in(3) { end_settings(&mut random) } else { some_settings(&mut random) };
+    }
+    let mut maker = Maker::open(random, settings, ROOM);
+    maker.wait_out();
+    maker.bytes
 }
 
 /// Records after the refused one: none of them may be carried out.

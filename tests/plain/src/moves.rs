@@ -129,7 +129,7 @@ impl Maker {
         notes.chain(timers).min().map_or(0, |ticks| ticks as u32)
     }
 
-    fn last_time_out(&self) -> u32 {
+    pub fn last_time_out(&self) -> u32 {
         self.floor.clock as u32 + self.settings().message
     }
 
@@ -200,7 +200,7 @@ impl Maker {
     }
 
     /// Does what holds up the clock.
-    fn catch_up(&mut self) {
+    pub fn catch_up(&mut self) {
         let receive_first = self.random.one_in(2);
         if receive_first {
             self.receive_due();

@@ -2,6 +2,7 @@
 
 use crate::answer::{is_new, number};
 use crate::floor::{members, Floor};
+use crate::hold::{self, Hold};
 use crate::record::{self, RECORD};
 use crate::sequence::Outcome;
 use std::fmt::Write;
@@ -22,10 +23,29 @@ pub fn dump(sequence: &[u8], outcome: &Outcome) -> String {
     out
 }
 
-fn lines(outcome: &Outcome, out: &mut String) -> std::fmt::Result {
+/// What the program hold prints of a sequence that came to this outcome.
+pub fn hold(sequence: &[u8], outcome: &Outcome) -> String {
+    let mut out = String::new();
+    hold_lines(sequence, outcome, &mut out).expect("a String takes every line");
+    out
+}
+
+/// The same, and then what each record and each try to print a sticker answers, and what is known of the stickers at the end.
+pub fn stickers(sequence: &[u8], outcome: &Outcome) -> String {
+    let mut out = hold(sequence, outcome);
+    sticker_lines(sequence, outcome, &mut out).expect("a String takes every line");
+    out
+}
+
+fn first_lines(outcome: &Outcome, out: &mut String) -> std::fmt::Result {
     writeln!(out, "ran {} answer {}", outcome.ran, number(&outcome.answer))?;
     let Some(floor) = &outcome.floor else { return Ok(()) };
-    writeln!(out, "clock {} pending {}", floor.clock, floor.notes.len())?;
+    writeln!(out, "clock {} pending {}", floor.clock, floor.notes.len())
+}
+
+fn lines(outcome: &Outcome, out: &mut String) -> std::fmt::Result {
+    first_lines(outcome, out)?;
+    let Some(floor) = &outcome.floor else { return Ok(()) };
     for (place, desk) in floor.desks.iter().enumerate() {
         let mark = if desk.faulty { "faulty" } else { "good" };
         write!(out, "desk {place} {mark} {} {}", desk.pass_on_timer, desk.accept_timer)?;
@@ -66,4 +86,44 @@ fn act_lines(sequence: &[u8], outcome: &Outcome, out: &mut String) -> std::fmt::
         writeln!(out, "act {place} {} {}", number(&told), u8::from(is_new(&told)))?;
     }
     Ok(())
+}
+
+fn hold_lines(sequence: &[u8], outcome: &Outcome, out: &mut String) -> std::fmt::Result {
+    first_lines(outcome, out)?;
+    let Some(hold) = hold::after(sequence, outcome) else { return Ok(()) };
+    for (&entry, sticker) in &hold.stickers {
+        let Some(noted) = sticker.noted else { continue };
+        let first = noted + hold.floor.settings.wait() + 1;
+        let word = if hold.wait_is_over(entry) { "print" } else { "wait" };
+        writeln!(out, "entry {entry} noted {noted} from {first} {word}")?;
+    }
+    Ok(())
+}
+
+/// Takes the records once more, and goes on after a refused one. After each of them some stickers are tried.
+fn sticker_lines(sequence: &[u8], outcome: &Outcome, out: &mut String) -> std::fmt::Result {
+    let Some(end) = &outcome.floor else { return Ok(()) };
+    let mut hold = Hold::open(end.settings).expect("the sequence was opened with them");
+    for (place, record) in sequence[RECORD..].chunks_exact(RECORD).enumerate() {
+        let taken = record::read(record).and_then(|action| hold.take(action));
+        writeln!(out, "take {place} {}", number(&taken))?;
+        for entry in tried_after(record, &hold) {
+            writeln!(out, "print {entry} {}", number(&hold.print(entry)))?;
+        }
+    }
+    for (entry, sticker) in &hold.stickers {
+        let desks: u32 = sticker.announced_by.iter().map(|desk| 1 << desk).sum();
+        writeln!(out, "noted {entry} {desks} {} {}", sticker.noted.unwrap_or(0), u8::from(sticker.printed))?;
+    }
+    Ok(())
+}
+
+/// The entries whose stickers are tried after a record: as time may have gone by after a delay, all that were announced, and the
+/// first that the floor does not have; or else the record's own.
+fn tried_after(record: &[u8], hold: &Hold) -> Vec<u8> {
+    if record[0] == 0 {
+        hold.stickers.keys().copied().chain([hold.floor.settings.entries]).collect()
+    } else {
+        vec![record[3]]
+    }
 }
