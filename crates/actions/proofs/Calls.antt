@@ -7,12 +7,12 @@ use Prim.Native.Nat.{ℕ, zero, suc, _+_, _≤_}
 use native.Mathlib.Omega.{arith}
 use lib.Dec.{eqb}
 use lib.ListN.{length, getD, List·getD-eq-default}
-use borrow.Author.Tests.{eq-eqb, ne-eqb, eqb-true, eqb-false, not-false}
+use borrow.Author.Tests.{eq-eqb, ne-eqb, eqb-true, eqb-false}
 use Rattle.sets.specs.Counting.{bit}
 use Rattle.sets.proofs.Tests.{was-true, was-false, decided, cond-both}
 use Rattle.rules.specs.Rules.{Move, delay, announce, passOn, accept, receive, crash, resetTimers, falseNote, unknown, Check, answer, next, firstOf, mostNotes}
 use Rattle.rules.specs.NewSources.{sizes}
-use Rattle.rules.proofs.CheckLaws.{first-none, first-fails, first-passes, zero-passed, not-zero}
+use Rattle.rules.proofs.CheckLaws.{first-none, first-fails, first-passes, not-zero}
 use Rattle.rules.proofs.Clauses.{answer-unknown}
 use Rattle.records.specs.Records.{wellFormed}
 use Rattle.records.specs.declared.Action.{Action}
@@ -119,10 +119,14 @@ module _ (fl : Floor) (area : List ℕ) (cs : List Check) where
     unfolding callChecks
     call-passes y = area-passes area (outOfShape fl area ∷ cs) long ∙ first-passes 1 (not (inShapeAt fl area)) cs (ap not (was-true s y))
 
--- where none of them refuses, the floor is in shape
-call-clear : (fl : Floor) (area : List ℕ) → firstOf (callChecks fl area) ≡ 0 → not (inShapeAt fl area) ≡ false
-unfolding callChecks
-call-clear fl area clear = zero-passed (callChecks fl area) (not-zero 15 refl, (not-zero 1 refl, tt)) clear .1 .0
+  -- where nothing refuses, the floor is in shape, and what follows does not refuse either
+  pub call-clear : firstOf (callChecks fl area ++ cs) ≡ 0 → (inShapeAt fl area ≡ true) × (firstOf cs ≡ 0)
+  call-clear clear =
+      ⊎-elim
+      (λ e. let long : length area ≡ mostNotes = eqb-true (length area) mostNotes e in
+      ⊎-elim (λ s. (s, sym (call-passes long true (sym s) refl) ∙ clear)) (λ s. absurd (not-zero 1 refl (sym (call-1 long false (sym s) refl) ∙ clear))) (decided (inShapeAt fl area)))
+      (λ e. absurd (not-zero 15 refl (sym (call-15 (eqb-false (length area) mostNotes e)) ∙ clear)))
+      (decided (eqb (length area) mostNotes))
 
 -- a call is refused with 15, or with 1, or the floor is one that a step may be made on
 pub call-either : {R : Type 0} (fl : Floor) (area : List ℕ) → Sized fl → (length area ≢ mostNotes → R) → (length area ≡ mostNotes → inShapeAt fl area ≡ false → R) → (Fit fl area → R) → R
@@ -179,7 +183,7 @@ module _ (fl : Floor) (area : List ℕ) (x : Action) where
   act-done = act-both (λ (t : Told). t .out .answer ≡ 0 → (inShapeAt fl area ≡ true) × (answer (stateOf fl area) (moveOf x) ≡ 0)) (λ number some z. absurd (some z)) (λ clear z. (shaped clear, sym told-answer ∙ z))
     where
       shaped : firstOf (callChecks fl area) ≡ 0 → inShapeAt fl area ≡ true
-      shaped clear = not-false (inShapeAt fl area) (call-clear fl area clear)
+      shaped clear = call-clear fl area [] (sym alone ∙ clear) .0
 
   -- "A refusal leaves floor and area as they were and gives the floor handed in"
   pub act-refused : acted fl area x .out .answer ≢ 0 → acted fl area x .out ≡ refusal (acted fl area x .out .answer) fl area

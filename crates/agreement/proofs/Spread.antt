@@ -1,6 +1,6 @@
 -- How an entry spreads, from the laws of one act alone. D is a clock by which something has happened. Assumes nothing.
-use mathlib.Core.Path.{_≡_, sym, ap, _∙_}
-use mathlib.Core.Bool.{Bool, true, _&&_, _||_, or-assoc, or-false, false≢true}
+use mathlib.Core.Path.{_≡_, refl, sym, ap, _∙_}
+use mathlib.Core.Bool.{Bool, true, false, _&&_, _||_, or-assoc, or-false, false≢true}
 use mathlib.Core.Logic.{_⊎_, inl, inr, ⊎-elim}
 use mathlib.Core.List.{List, [], _∷_, _++_}
 use Prim.Native.Nat.{ℕ, _+_, _*_, _≤_, _<_}
@@ -27,6 +27,11 @@ module _ (v : View) (T : ℕ) where
       (λ done. or-left now (announcers v T (next s a) (acts ++ more) i) done)
       (λ coming. or-right now (announcers v T (next s a) (acts ++ more) i) (announced-stays (next s a) acts more i coming))
       (or-cases now (announcers v T (next s a) acts i) h)
+
+  -- where nothing is done nothing is announced
+  pub announced-none : (s : State) (i : ℕ) → announcers v T s [] i ≡ false
+  unfolding announcers
+  announced-none s i = refl
 
   -- with one act more: what has been announced before it, and what it announces
   pub announced-last : (s : State) (acts : List Act) (a : Act) (i : ℕ)

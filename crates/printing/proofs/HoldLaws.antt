@@ -7,12 +7,12 @@ use Prim.Native.Nat.{ℕ, _≤_, _<_}
 use native.Mathlib.Nat.{lt-of-lt-of-le}
 use lib.Dec.{eqb, ltb}
 use lib.ListN.{length, set, replicate}
-use borrow.Author.Tests.{eq-eqb, ne-eqb, eqb-true, lt-ltb, le-ltb, not-true, not-false}
+use borrow.Author.Tests.{eq-eqb, ne-eqb, eqb-true, eqb-false, lt-ltb, le-ltb, not-true, not-false}
 use Rattle.sets.specs.Sets.{insertBelow}
 use Rattle.sets.specs.declared.EntrySet.{EntrySet}
-use Rattle.sets.proofs.Tests.{was-true, was-false, and-left, and-right, cond-true, cond-false}
+use Rattle.sets.proofs.Tests.{was-true, was-false, and-left, and-right, cond-true, cond-false, cond-both}
 use Rattle.rules.specs.Rules.{Check, _when_, firstOf, announce, unknown, mostNotes}
-use Rattle.rules.proofs.CheckLaws.{first-none, first-fails, first-passes, carried-out, announce-below}
+use Rattle.rules.proofs.CheckLaws.{first-none, first-fails, first-passes, zero-passed, not-zero, carried-out, below-passed, announce-below}
 use Rattle.rules.proofs.Shapes.{shape-limits}
 use Rattle.records.specs.declared.Action.{Action}
 use Rattle.floors.specs.Bridge.{stateOf}
@@ -21,7 +21,7 @@ use Rattle.shapes.specs.Shape.{inShapeAt}
 use Rattle.shapes.proofs.ShapeLaws.{shape-holds}
 use Rattle.moves.specs.Moves.{Outcome, Told, noneNew}
 use Rattle.actions.specs.Actions.{moveOf, wrongArea, acted, opened}
-use Rattle.actions.proofs.Calls.{area-fails, area-passes, call-15, call-1, call-passes, act-done, act-unknown, act-same, act-announces}
+use Rattle.actions.proofs.Calls.{area-fails, area-passes, call-15, call-1, call-passes, call-clear, act-done, act-unknown, act-same, act-announces}
 use Rattle.printing.specs.declared.Hold.{Hold}
 use Rattle.printing.specs.Holding.{
   clockNoted,
@@ -32,6 +32,7 @@ use Rattle.printing.specs.Holding.{
   newHold,
   withFloor,
   announcing,
+  withPrinted,
   notedInShape,
   notedOutOfShape,
   Holding,
@@ -202,3 +203,22 @@ module _ (h : Hold) (area : List ℕ) (e : ℕ) where
         → record { answer = 0; hold = record { floor = h .floor; announcers = h .announcers; noted = h .noted; printed = with′ }; area = area } ≡ printed h area e
     unfolding printed
     print-marks z with′ q = rw (← is, z) (ap (λ (n : ℕ). let o : Holding = record { answer = 0; hold = record { floor = h .floor; announcers = h .announcers; noted = h .noted; printed = record { 0 = n } }; area = area } in o) q)
+
+-- ---- the ways of a print
+
+module _ (h : Hold) (area : List ℕ) (e : ℕ) where
+  -- a print that may be made is made when the wait is over, and was not made before
+  pub may-parts : mayPrint h area e ≡ 0 → (e < h .floor .settings .u) × (waitOverAt h e ≡ true) × (isPrinted h e ≡ false)
+  unfolding mayPrint printChecks
+  may-parts z =
+      let own = notedOutOfShape h ∷ 5 when not (ltb e (h .floor .settings .u)) ∷ 17 when not (waitOverAt h e) ∷ 18 when isPrinted h e ∷ [] in
+      let passed = zero-passed own (not-zero 1 refl, (not-zero 5 refl, (not-zero 17 refl, (not-zero 18 refl, tt)))) (call-clear (h .floor) area own z .1) in
+      (below-passed e (h .floor .settings .u) (passed .1 .0), not-false (waitOverAt h e) (passed .1 .1 .0), passed .1 .1 .1 .0)
+
+  pub printed-either : (Q : Holding → Type 0) → ((number : ℕ) → number ≢ 0 → Q (refusing number h area))
+      → (e < h .floor .settings .u → waitOverAt h e ≡ true → isPrinted h e ≡ false → Q (record { answer = 0; hold = withPrinted h e; area = area })) → Q (printed h area e)
+  unfolding printed
+  printed-either Q refuses prints =
+      let number = mayPrint h area e in
+      cond-both Q (eqb number 0) (record { answer = 0; hold = withPrinted h e; area = area }) (refusing number h area)
+      (λ z. let (low, over, new) = may-parts (eqb-true number 0 z) in prints low over new) (λ z. refuses number (eqb-false number 0 z))

@@ -1,3 +1,4 @@
 pub mod Holding
 pub mod Whole
 pub mod Steps
+pub mod Promise

@@ -1,11 +1,10 @@
--- Actions and prints on a hold, one after another, refused ones among them; and what the rules' run says of them. Assumes nothing.
-use mathlib.Core.Bool.{cond, _&&_}
+-- Actions and prints on a hold, one after another, refused ones among them. Assumes nothing.
+use mathlib.Core.Bool.{_&&_}
 use mathlib.Core.List.{List, [], _∷_}
-use Prim.Native.Nat.{ℕ, _+_, _≤_}
+use Prim.Native.Nat.{ℕ, _+_}
 use lib.Dec.{eqb}
 use Rattle.sets.specs.Counting.{bit}
-use Rattle.rules.specs.Rules.{Settings, Move}
-use Rattle.agreement.specs.Demand.{floorAfter, AnnouncedBy, LaterThanWait}
+use Rattle.rules.specs.Rules.{Move}
 use Rattle.records.specs.declared.Action.{Action}
 use Rattle.actions.specs.Actions.{moveOf}
 use Rattle.printing.specs.declared.Hold.{Hold}
@@ -40,13 +39,3 @@ timesPrinted e o [] = 0
 timesPrinted e o (step ∷ steps) =
     let next = stepped (o .hold) (o .area) step in
     isPrintOf e step (next .answer) + timesPrinted e next steps
-
--- ---- of the rules' run, in the words of demand 3
-
--- T is the first clock by which f+1 different desks have carried out an announcement of entry e
-abbrev pub FirstBy : Settings → ℕ → List Move → ℕ → Type 0
-FirstBy k e moves T = AnnouncedBy k e moves T × ((t : ℕ) → AnnouncedBy k e moves t → T ≤ t)
-
--- by some clock they have, and the state is later than that by more than the wait
-abbrev pub WaitIsOver : Settings → ℕ → List Move → Type 0
-WaitIsOver k e moves = (T : ℕ) × AnnouncedBy k e moves T × LaterThanWait k T (floorAfter k moves)

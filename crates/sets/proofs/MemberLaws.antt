@@ -63,17 +63,18 @@ member-pow (suc i) (suc j) =
     member-suc (2 ^ suc i) j ∙ ap (λ (n : ℕ). member n j) (ap (λ (n : ℕ). n / 2) (pow-succ' 2 i) ∙ mul-div-cancel-left (2 ^ i) (zero-lt-suc 1))
     ∙ member-pow i j ∙ sym (eqb·suc-suc i j)
 
-pub insert-same : (x i : ℕ) → member (insert x i) i ≡ true
+pub member-insert : (x i j : ℕ) → member (insert x i) j ≡ (member x j || eqb i j)
 unfolding insert
-insert-same x i = member-or x (2 ^ i) i ∙ ap (λ (b : Bool). member x i || b) (member-pow i i ∙ eq-eqb i i refl) ∙ or-true (member x i)
+member-insert x i j = member-or x (2 ^ i) j ∙ ap (λ (b : Bool). member x j || b) (member-pow i j)
+
+pub insert-same : (x i : ℕ) → member (insert x i) i ≡ true
+insert-same x i = member-insert x i i ∙ ap (λ (b : Bool). member x i || b) (eq-eqb i i refl) ∙ or-true (member x i)
 
 pub insert-other : (x i j : ℕ) → j ≢ i → member (insert x i) j ≡ member x j
-unfolding insert
-insert-other x i j h = member-or x (2 ^ i) j ∙ ap (λ (b : Bool). member x j || b) (member-pow i j ∙ ne-eqb i j (λ e. h (sym e))) ∙ or-false (member x j)
+insert-other x i j h = member-insert x i j ∙ ap (λ (b : Bool). member x j || b) (ne-eqb i j (λ e. h (sym e))) ∙ or-false (member x j)
 
 pub insert-keeps : (x i j : ℕ) → member x j ≡ true → member (insert x i) j ≡ true
-unfolding insert
-insert-keeps x i j t = member-or x (2 ^ i) j ∙ ap (λ (b : Bool). b || member (2 ^ i) j) t
+insert-keeps x i j t = member-insert x i j ∙ ap (λ (b : Bool). b || eqb i j) t
 
 -- what is a member after i was put in is i, or was one before
 pub insert-cases : (x i j : ℕ) → member (insert x i) j ≡ true → (j ≡ i) ⊎ (member x j ≡ true)
