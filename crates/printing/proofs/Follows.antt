@@ -28,11 +28,12 @@ use Rattle.actions.specs.Actions.{moveOf, settingsIn, acted, opened}
 use Rattle.actions.proofs.Calls.{act-next}
 use Rattle.actions.proofs.Openings.{opened-state, opened-fit}
 use Rattle.printing.specs.declared.Hold.{Hold}
-use Rattle.printing.specs.Holding.{clockNoted, announcersAt, notedAt, isPrinted, waitOverAt, newHold, withFloor, announcing, withPrinted, notedInShape, Holding, openedHold, taking, took, mayPrint, printed}
+use Rattle.printing.specs.Holding.{begun, clockNoted, announcersAt, notedAt, begunAt, isPrinted, waitOverAt, newHold, withFloor, announcing, withPrinted, notedInShape, Holding, openedHold, taking, took, mayPrint, printed}
+use Rattle.printing.proofs.EntryLaws.{noted-again}
 use Rattle.printing.proofs.HoldLaws.{announced-below, took-acted, printed-either}
 use Rattle.printing.proofs.ActionLaws.{settings-stay, clock-on, marks-stay, announcer-below, mark-set, announces-own, announces-no-other, announces-none}
 use Rattle.printing.proofs.Noting.{one-more, Noting, noting-none, noting-other, noting-announced}
-use Rattle.printing.proofs.ShapeKept.{EntryShape, EntryShapeAt, noted-each, each-noted, later-shape, announced-shape, printed-shape, nothing-noted}
+use Rattle.printing.proofs.ShapeKept.{EntryShape, EntryShapeAt, noted-each, each-noted, more-begun, later-shape, announced-shape, printed-shape, nothing-noted}
 
 module _ (k : rules.Settings) (few : k .n ≤ 16) where
   pub record Follows (moves : List Move) (h : Hold) (area : List ℕ) : Type 0 where
@@ -163,13 +164,27 @@ module _ (k : rules.Settings) (few : k .n ≤ 16) where
         (λ t. announced-follows (eqb-true (o .answer) 0 (and-left (eqb (o .answer) 0) (eqb (x .kind) 1) t)) (eqb-true (x .kind) 1 (and-right (eqb (o .answer) 0) (eqb (x .kind) 1) t)))
         other-follows)
 
+    -- a noted clock stays: "A crash or a repeated announcement never moves the noted clock"
+    pub took-noted : (e : ℕ) → e < 64 → begunAt h e ≡ true → let h′ = took h area x .hold in (begunAt h′ e ≡ true) × (notedAt h′ e ≡ notedAt h e)
+    took-noted e l b =
+        subst (λ (q : Holding). (begunAt (q .hold) e ≡ true) × (notedAt (q .hold) e ≡ notedAt h e)) (sym (took-acted h area x (g .fit .exact) true (sym (g .shaped)) refl))
+        (cond-both (λ (q : Hold). (begunAt q e ≡ true) × (notedAt q e ≡ notedAt h e)) (eqb (o .answer) 0 && eqb (x .kind) 1) (announcing h (o .floor) (x .desk .0) (x .entry .0)) (withFloor h (o .floor))
+        (λ t. let z = eqb-true (o .answer) 0 (and-left (eqb (o .answer) 0) (eqb (x .kind) 1) t) in
+        let one = eqb-true (x .kind) 1 (and-right (eqb (o .answer) 0) (eqb (x .kind) 1) t) in
+        by-entry z one (λ c a n. begun (fl .settings .f) (announcersAt h c) ≡ true → (begun (o .floor .settings .f) a ≡ true) × (n ≡ notedAt h c))
+        (λ was. (
+          rw (ap (λ (q : Settings). q .f) (settings-stay fl area x (g .fit))) (more-begun (fl .settings .f) (announcersAt h (x .entry .0)) (x .desk .0) was),
+          noted-again (fl .settings .f) (announcersAt h (x .entry .0)) (insert (announcersAt h (x .entry .0)) (x .desk .0)) (fl .clock) (notedAt h (x .entry .0)) was,
+        ))
+        (λ c below other was. (rw (ap (λ (q : Settings). q .f) (settings-stay fl area x (g .fit))) was, refl)) e l b)
+        (λ f. (rw (ap (λ (q : Settings). q .f) (settings-stay fl area x (g .fit))) b, refl)))
+
   -- ---- a print
 
   pub printed-follows : (moves : List Move) (h : Hold) (area : List ℕ) → Follows moves h area → (e : ℕ) → Follows moves (printed h area e .hold) (printed h area e .area)
   printed-follows moves h area g e =
       printed-either h area e (λ (q : Holding). Follows moves (q .hold) (q .area)) (λ number some. g)
-      (λ low over new.
-      let below : e < 64 = lt-of-lt-of-le low (shape-limits (stateOf (h .floor) area) (g .fit .shaped) .entries .1) in
+      (λ below over new.
       record {
         state = g .state;
         fit = g .fit;

@@ -21,12 +21,13 @@ use Rattle.shapes.specs.Shape.{inShapeAt}
 use Rattle.shapes.proofs.ShapeLaws.{shape-holds}
 use Rattle.moves.specs.Moves.{Outcome, Told, noneNew}
 use Rattle.actions.specs.Actions.{moveOf, wrongArea, acted, opened}
-use Rattle.actions.proofs.Calls.{area-fails, area-passes, call-15, call-1, call-passes, call-clear, act-done, act-unknown, act-same, act-announces}
+use Rattle.actions.proofs.Calls.{area-fails, area-passes, call-15, call-1, call-passes, call-clear, act-done, act-refused, act-unknown, act-same, act-announces}
 use Rattle.printing.specs.declared.Hold.{Hold}
 use Rattle.printing.specs.Holding.{
   clockNoted,
   announcersAt,
   notedAt,
+  begunAt,
   waitOverAt,
   isPrinted,
   newHold,
@@ -126,6 +127,32 @@ module _ (h : Hold) (area : List ℕ) (x : Action) where
           took-announced q e =
               ap with-hold e ∙ sym (taken ∙ ap with-hold (cond-true announced (announcing h (t .out .floor) (x .desk .0) (x .entry .0)) (withFloor h (t .out .floor)) (not-false announced z)))
 
+-- whatever note is taken, the floor is the library's
+pub taking-floor : (h : Hold) (x : Action) (o : Outcome) → let q = taking h x o in record { answer = q .answer; floor = q .hold .floor; area = q .area } ≡ o
+taking-floor h x o =
+    cond-both (λ (q : Hold). let r : Outcome = record { answer = o .answer; floor = q .floor; area = o .area } in r ≡ o) (eqb (o .answer) 0 && eqb (x .kind) 1)
+    (announcing h (o .floor) (x .desk .0) (x .entry .0)) (withFloor h (o .floor)) (λ t. refl) (λ f. refl)
+
+-- what was refused has changed nothing
+pub took-still : (h : Hold) (area : List ℕ) (x : Action) → took h area x .answer ≢ 0 → took h area x ≡ refusing (took h area x .answer) h area
+unfolding took
+took-still h area x =
+    let number = firstOf (wrongArea area ∷ notedOutOfShape h ∷ []) in
+    let o = acted (h .floor) area x .out in
+    cond-both (λ (q : Holding). q .answer ≢ 0 → q ≡ refusing (q .answer) h area) (eqb number 0) (taking h x o) (refusing number h area)
+    (λ e z. ap (taking h x) (act-refused (h .floor) area x z) ∙ rw (ne-eqb (o .answer) 0 z) refl)
+    (λ e z. refl)
+
+-- an action prints nothing
+pub took-printed : (h : Hold) (area : List ℕ) (x : Action) → took h area x .hold .printed ≡ h .printed
+unfolding took
+took-printed h area x =
+    let number = firstOf (wrongArea area ∷ notedOutOfShape h ∷ []) in
+    let o = acted (h .floor) area x .out in
+    cond-both (λ (q : Holding). q .hold .printed ≡ h .printed) (eqb number 0) (taking h x o) (refusing number h area)
+    (λ e. cond-both (λ (q : Hold). q .printed ≡ h .printed) (eqb (o .answer) 0 && eqb (x .kind) 1) (announcing h (o .floor) (x .desk .0) (x .entry .0)) (withFloor h (o .floor)) (λ t. refl) (λ f. refl))
+    (λ e. refl)
+
 -- what asks for no action is refused alike
 pub took-unknown : (h : Hold) (area : List ℕ) (x y : Action) → moveOf x ≡ unknown → moveOf y ≡ unknown → took h area x ≡ took h area y
 unfolding took
@@ -208,17 +235,29 @@ module _ (h : Hold) (area : List ℕ) (e : ℕ) where
 
 module _ (h : Hold) (area : List ℕ) (e : ℕ) where
   -- a print that may be made is made when the wait is over, and was not made before
-  pub may-parts : mayPrint h area e ≡ 0 → (e < h .floor .settings .u) × (waitOverAt h e ≡ true) × (isPrinted h e ≡ false)
+  pub may-parts : mayPrint h area e ≡ 0 → (e < 64) × (e < h .floor .settings .u) × (waitOverAt h e ≡ true) × (isPrinted h e ≡ false)
   unfolding mayPrint printChecks
   may-parts z =
       let own = notedOutOfShape h ∷ 5 when not (ltb e (h .floor .settings .u)) ∷ 17 when not (waitOverAt h e) ∷ 18 when isPrinted h e ∷ [] in
-      let passed = zero-passed own (not-zero 1 refl, (not-zero 5 refl, (not-zero 17 refl, (not-zero 18 refl, tt)))) (call-clear (h .floor) area own z .1) in
-      (below-passed e (h .floor .settings .u) (passed .1 .0), not-false (waitOverAt h e) (passed .1 .1 .0), passed .1 .1 .1 .0)
+      let (shaped, clear) = call-clear (h .floor) area own z in
+      let passed = zero-passed own (not-zero 1 refl, (not-zero 5 refl, (not-zero 17 refl, (not-zero 18 refl, tt)))) clear in
+      let low = below-passed e (h .floor .settings .u) (passed .1 .0) in
+      (lt-of-lt-of-le low (few-entries (h .floor) area shaped), low, not-false (waitOverAt h e) (passed .1 .1 .0), passed .1 .1 .1 .0)
+
+  pub print-answer : printed h area e .answer ≡ mayPrint h area e
+  unfolding printed
+  print-answer =
+      let number = mayPrint h area e in
+      cond-both (λ (o : Holding). o .answer ≡ number) (eqb number 0) (record { answer = 0; hold = withPrinted h e; area = area }) (refusing number h area) (λ z. sym (eqb-true number 0 z)) (λ z. refl)
 
   pub printed-either : (Q : Holding → Type 0) → ((number : ℕ) → number ≢ 0 → Q (refusing number h area))
-      → (e < h .floor .settings .u → waitOverAt h e ≡ true → isPrinted h e ≡ false → Q (record { answer = 0; hold = withPrinted h e; area = area })) → Q (printed h area e)
+      → (e < 64 → waitOverAt h e ≡ true → isPrinted h e ≡ false → Q (record { answer = 0; hold = withPrinted h e; area = area })) → Q (printed h area e)
   unfolding printed
   printed-either Q refuses prints =
       let number = mayPrint h area e in
       cond-both Q (eqb number 0) (record { answer = 0; hold = withPrinted h e; area = area }) (refusing number h area)
-      (λ z. let (low, over, new) = may-parts (eqb-true number 0 z) in prints low over new) (λ z. refuses number (eqb-false number 0 z))
+      (λ z. let (below, low, over, new) = may-parts (eqb-true number 0 z) in prints below over new) (λ z. refuses number (eqb-false number 0 z))
+
+  -- a print notes nothing
+  pub printed-noted : (c : ℕ) → begunAt h c ≡ true → let h′ = printed h area e .hold in (begunAt h′ c ≡ true) × (notedAt h′ c ≡ notedAt h c)
+  printed-noted c b = printed-either (λ (o : Holding). (begunAt (o .hold) c ≡ true) × (notedAt (o .hold) c ≡ notedAt h c)) (λ number some. (b, refl)) (λ below over new. (b, refl))

@@ -6,3 +6,6 @@ pub mod Noting
 pub mod ShapeKept
 pub mod ActionLaws
 pub mod Follows
+pub mod Promised
+pub mod PrintedOnce
+pub mod WholePromised

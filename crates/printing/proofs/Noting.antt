@@ -107,9 +107,10 @@ module _ (k : Settings) (few : k .n ≤ 16) (e : ℕ) where
 
       -- a noted clock stays the first
       still-first : begun (k .f) desks ≡ true → FirstBy k e more noted
-      still-first b =
-          (announced-more k e moves (m ∷ []) noted (g .first b .0),
-          λ t announced. ⊎-elim (λ l. le-trans (noted-past b) l) (λ l. g .first b .1 t (was-before t l announced)) (le-or-lt (s .clock) t))
+      still-first b = (
+        announced-more k e moves (m ∷ []) noted (g .first b .0),
+        λ t announced. ⊎-elim (λ l. le-trans (noted-past b) l) (λ l. g .first b .1 t (was-before t l announced)) (le-or-lt (s .clock) t),
+      )
 
       -- the move is no announcement of entry e, or none that is carried out
       pub noting-other : ((i : ℕ) → announces e s m i ≡ false) → Noting more desks noted
@@ -137,7 +138,11 @@ module _ (k : Settings) (few : k .n ≤ 16) (e : ℕ) where
 
           -- it is the f+1st
           first-now : begun (k .f) (insert desks d) ≡ true → begun (k .f) desks ≡ false → FirstBy k e more (s .clock)
-          first-now b new =
-              (omega (arith, begun-enough (k .f) (insert desks d) b,
-              as-many (announcers (view e) (s .clock) (fresh k) more) (insert desks d) (insert-lt (k .n) desks d (g .below) below) (told (s .clock) (le-refl (s .clock)))),
-              λ t announced. ⊎-elim (λ l. l) (λ l. clash (begun (k .f) desks) (announced-begun t (was-before t l announced)) new) (le-or-lt (s .clock) t))
+          first-now b new = (
+            omega (
+              arith,
+              begun-enough (k .f) (insert desks d) b,
+              as-many (announcers (view e) (s .clock) (fresh k) more) (insert desks d) (insert-lt (k .n) desks d (g .below) below) (told (s .clock) (le-refl (s .clock))),
+            ),
+            λ t announced. ⊎-elim (λ l. l) (λ l. clash (begun (k .f) desks) (announced-begun t (was-before t l announced)) new) (le-or-lt (s .clock) t),
+          )

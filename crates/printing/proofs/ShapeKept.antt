@@ -69,9 +69,13 @@ module _ (k : Settings) (clock : ℕ) (sent : List ℕ) (announcers noted : ℕ)
   entry-shape ok =
       joined tests (
         lt-all-below (cond (ltb e (k .u)) (k .n) 0) announcers (ok .inside),
-        (each-below (sentBy sent announcers e) 16 (λ i l. if-only (member announcers i) (member (getD sent i 0) e) (ok .marked i l)),
-        (le-leb noted (cond (begun (k .f) announcers) clock 0) (ok .past),
-        (if-only printed (waitOver k clock announcers noted) (ok .waited), tt))),
+        (
+          each-below (sentBy sent announcers e) 16 (λ i l. if-only (member announcers i) (member (getD sent i 0) e) (ok .marked i l)),
+          (
+            le-leb noted (cond (begun (k .f) announcers) clock 0) (ok .past),
+            (if-only printed (waitOver k clock announcers noted) (ok .waited), tt),
+          ),
+        ),
       )
 
 -- every entry of a hold
@@ -90,7 +94,7 @@ module _ (h : Hold) where
 -- ---- one step more
 
 -- a desk more is not fewer
-more-begun : (f announcers d : ℕ) → begun f announcers ≡ true → begun f (insert announcers d) ≡ true
+pub more-begun : (f announcers d : ℕ) → begun f announcers ≡ true → begun f (insert announcers d) ≡ true
 more-begun f announcers d b =
     enough-begun f (insert announcers d)
     (le-trans (begun-enough f announcers b) (count-mono (member announcers) (member (insert announcers d)) 16 (λ i l has. insert-keeps announcers d i has)))

@@ -8,8 +8,8 @@ use native.Mathlib.Numerals.{add-one}
 use native.Mathlib.Omega.{arith}
 use lib.Dec.{eqb}
 use lib.ListN.{length, take, drop}
-use borrow.Author.Tests.{eq-eqb, ne-eqb}
-use Rattle.sets.proofs.Tests.{decided}
+use borrow.Author.Tests.{eq-eqb, ne-eqb, eqb-true, eqb-false}
+use Rattle.sets.proofs.Tests.{decided, cond-both}
 use Rattle.rules.specs.Rules.{unknown, firstOf, mostNotes}
 use Rattle.records.specs.Records.{wellFormed, actionOf, recordAt}
 use Rattle.records.specs.declared.Action.{Action}
@@ -17,6 +17,7 @@ use Rattle.floors.specs.Bridge.{noFloor}
 use Rattle.floors.specs.declared.Floor.{Floor}
 use Rattle.actions.specs.Actions.{moveOf, opened}
 use Rattle.actions.proofs.Calls.{kind-none, malformed}
+use Rattle.actions.proofs.Openings.{opened-none}
 use Rattle.runs.specs.Runs.{wholeChecks}
 use Rattle.runs.proofs.CallLaws.{tail, number-15, number-16, number-0, records-there}
 use Rattle.printing.specs.declared.Hold.{Hold}
@@ -107,3 +108,18 @@ module _ (area bytes : List ℕ) where
       unfolding takenAfter
       taken-opened z t e =
           sym (first ∙ rw (← is, eq-eqb (o .answer) 0 z) (sym (e ∙ ap (λ (b : List ℕ). takenFrom (length bytes / 16 - 1) (o .hold) (o .area) b 0) (tail bytes 16 (records-there area bytes long h .0)))))
+
+  -- what holds where there is no floor, and of the records after an opening, holds of a whole sequence
+  pub taken-either : (Q : Taken → Type 0) → ((o : Holding) → o .hold .floor ≡ noFloor → Q (record { count = 0; out = o }))
+      → (let x = actionOf (take 16 bytes) in let o = openedHold area x in opened area x .answer ≡ 0 → (n : ℕ) → Q (takenFrom n (o .hold) (o .area) (drop 16 bytes) 0))
+      → Q (wholeTaken area bytes)
+  unfolding wholeTaken takenAfter openedHold
+  taken-either Q none ran =
+      let number = firstOf (wholeChecks area bytes) in
+      let x = actionOf (take 16 bytes) in
+      let o = openedHold area x in
+      cond-both Q (eqb number 0) (takenAfter o bytes) (record { count = 0; out = refusing number (newHold noFloor) area })
+      (λ e. cond-both Q (eqb (o .answer) 0) (takenFrom (length bytes / 16 - 1) (o .hold) (o .area) (drop 16 bytes) 0) (record { count = 0; out = o })
+      (λ z. ran (eqb-true (o .answer) 0 z) (length bytes / 16 - 1))
+      (λ z. none o (opened-none area x (eqb-false (o .answer) 0 z))))
+      (λ e. none (refusing number (newHold noFloor) area) refl)

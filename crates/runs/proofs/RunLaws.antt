@@ -2,7 +2,7 @@
 use mathlib.Core.Path.{_≡_, refl, sym, ap, _∙_}
 use mathlib.Core.Bool.{Bool, true, false}
 use mathlib.Core.Logic.{⊎-elim}
-use mathlib.Core.List.{List}
+use mathlib.Core.List.{List, [], _∷_}
 use Prim.Native.Nat.{ℕ, suc, _+_, _-_, _*_, _≤_, _<_, zero-le}
 use native.Mathlib.Numerals.{add-one}
 use native.Mathlib.Omega.{arith}
@@ -16,7 +16,7 @@ use Rattle.rules.specs.Rules.{unknown, answer}
 use Rattle.floors.specs.Bridge.{stateOf}
 use Rattle.floors.specs.declared.Settings.{Settings}
 use Rattle.floors.specs.declared.Floor.{Floor}
-use Rattle.records.specs.Records.{wellFormed, actionOf, readOf}
+use Rattle.records.specs.Records.{wellFormed, actionOf, readOf, recordAt}
 use Rattle.records.specs.declared.Action.{Action}
 use Rattle.records.specs.declared.Reading.{Reading}
 use Rattle.records.proofs.RecordLaws.{read-zero, read-good}
@@ -25,7 +25,7 @@ use Rattle.moves.specs.declared.head.Head.{Head}
 use Rattle.moves.specs.Moves.{Outcome, stepAt, Told, toldAt, held, left, Ready}
 use Rattle.moves.proofs.StepLaws.{Fit, fit-ready, told-out, step-answer, step-fit, step-long}
 use Rattle.actions.specs.Actions.{moveOf}
-use Rattle.runs.specs.Runs.{moveAt, Went, wentFrom}
+use Rattle.runs.specs.Runs.{moveAt, movesFrom, Went, wentFrom}
 
 -- ---- a record that was read
 
@@ -42,6 +42,21 @@ module _ (bytes : List ℕ) (r : Reading) (is : r ≡ readOf bytes) where
 -- a step with the move that the record names
 pub by-record : (t : Told) (fl : Floor) (area : List ℕ) (x y : Action) → x ≡ y → t ≡ toldAt fl area (moveOf x) → t ≡ toldAt fl area (moveOf y)
 by-record t fl area x y e s = s ∙ ap (λ (z : Action). toldAt fl area (moveOf z)) e
+
+-- ---- the moves of a sequence
+
+module _ (bytes : List ℕ) (k : ℕ) where
+  pub move-at : moveAt bytes k ≡ moveOf (actionOf (recordAt bytes k))
+  unfolding moveAt
+  move-at = refl
+
+  pub moves-none : movesFrom bytes k 0 ≡ []
+  unfolding movesFrom
+  moves-none = refl
+
+  pub moves-next : (n : ℕ) → movesFrom bytes k (suc n) ≡ moveOf (actionOf (recordAt bytes k)) ∷ movesFrom bytes (k + 1) n
+  unfolding movesFrom moveAt
+  moves-next n = rw add-one
 
 -- ---- record k of a sequence, lent as the part from 16 × k
 
