@@ -9,10 +9,11 @@
 //!   added, or else 0.
 //! - `plain hold < SEQUENCE` prints what the program hold prints: the first two lines of floor, and then `entry ENTRY noted CLOCK
 //!   from CLOCK WORD` for each entry whose wait has begun. WORD is `print` if its sticker may be printed now, or else `wait`.
-//! - `plain stickers < SEQUENCE` prints the same and then, if the sequence opened, what comes of the actions taken once more, those
-//!   after a refused one too: `take RECORD ANSWER` for each record after the opening, counted from 0, and below it `print ENTRY
-//!   ANSWER` for each sticker that is tried after it. At the end comes `noted ENTRY SET CLOCK PRINTED` for each entry that was
-//!   announced. SET is that of the desks that announced it, CLOCK is 0 if none is noted, and PRINTED is 1 or 0.
+//! - `plain stickers < SEQUENCE` prints what the program stickers prints: `open ANSWER` and then, if the answer is 0, what comes
+//!   of the actions taken, those after a refused one too: `take RECORD ANSWER` for each record after the opening, counted from
+//!   0, and below it `print ENTRY ANSWER` for each sticker that is tried after it. At the end comes `noted ENTRY SET CLOCK
+//!   PRINTED` for each entry that was announced. SET is that of the desks that announced it, CLOCK is 0 if none is noted, and
+//!   PRINTED is 1 or 0.
 //! - `plain trace < SEQUENCE` prints what happens in the run, a line for each thing; trace.rs says how. tools/picture draws it.
 //! - `plain make SEED COUNT DIR` makes sequences to try and says how many of each sort.
 
