@@ -1,5 +1,5 @@
 # README.md says what each command is for. The gate's last line is its verdict, so its recipe prints nothing of its own.
-.PHONY: run picture test check compare bench fmt
+.PHONY: run hold picture test check compare bench fmt
 
 # The sequence that the program is run on: make run SEQ=file
 SEQ = examples/first-look/sequence.seq
@@ -9,6 +9,12 @@ run:
 	@mkdir -p target
 	@rt check floor > target/run.log 2>&1 || { cat target/run.log; exit 1; }
 	@tests/run-program target/bin/floor < '$(SEQ)'
+
+# Which stickers may be printed after a sequence: make hold SEQ=file
+hold:
+	@mkdir -p target
+	@rt check hold > target/hold.log 2>&1 || { cat target/hold.log; exit 1; }
+	@tests/run-program target/bin/hold < '$(SEQ)'
 
 # The run of a sequence, drawn: make picture SEQ=file > picture.svg
 picture:

@@ -9,7 +9,7 @@ use lib.Dec.{eqb}
 use lib.ListN.{length, getD, List·getD-eq-default}
 use borrow.Author.Tests.{eq-eqb, ne-eqb, eqb-true, eqb-false}
 use Rattle.sets.specs.Counting.{bit}
-use Rattle.sets.proofs.Tests.{was-true, was-false, decided, cond-both}
+use Rattle.sets.proofs.Tests.{with-result, was-true, was-false, decided, cond-both}
 use Rattle.rules.specs.Rules.{Move, delay, announce, passOn, accept, receive, crash, resetTimers, falseNote, unknown, Check, answer, next, firstOf, mostNotes}
 use Rattle.rules.specs.NewSources.{sizes}
 use Rattle.rules.proofs.CheckLaws.{first-none, first-fails, first-passes, not-zero}
@@ -231,7 +231,7 @@ module _ (fl : Floor) (area : List ℕ) (x : Action) where
       refuses number e = subst Added e (omega arith)
 
   pub act-added : Sized fl → (t : Told) → t ≡ acted fl area x → (t ≡ acted fl area x) × Added t
-  act-added sized t e = (e, subst Added (sym e) (acted-added sized))
+  act-added sized t e = with-result Added (acted-added sized) e
 
 -- actions that ask for the same move are one
 pub act-same : (fl : Floor) (area : List ℕ) (x y : Action) → moveOf x ≡ moveOf y → acted fl area x ≡ acted fl area y

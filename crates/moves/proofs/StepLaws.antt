@@ -12,7 +12,7 @@ use borrow.Author.Tests.{eq-eqb, eqb-true, eqb-false}
 use Rattle.sets.specs.Counting.{bit}
 use Rattle.sets.proofs.Tests.{cond-true, cond-both, decided}
 use Rattle.rules.specs.Rules.{State, Move, answer, effect, next, mostNotes}
-use Rattle.rules.specs.NewSources.{isNew, sizes, allSizes}
+use Rattle.rules.specs.NewSources.{isNew, sizes}
 use Rattle.rules.proofs.CheckLaws.{carried-out, next-carried-out, next-refused}
 use Rattle.rules.proofs.Effects.{Whole, kept-whole, effect-kept}
 use Rattle.rules.proofs.Shapes.{Shape, Limits, shape-limits}
@@ -23,7 +23,7 @@ use Rattle.notes.proofs.AreaLaws.{take-laid, length-laid}
 use Rattle.floors.specs.Bridge.{settingsOf, stateOf, floorOf, Sized}
 use Rattle.floors.specs.declared.Floor.{Floor}
 use Rattle.floors.proofs.Bridge.{there, whole-sized, sized-whole}
-use Rattle.floors.proofs.Sizes.{floor-sizes}
+use Rattle.floors.proofs.Sizes.{grown-sizes}
 use Rattle.moves.specs.Moves.{Outcome, refusal, carriedOut, stepAt, toldAt, Ready}
 use Rattle.moves.proofs.Steps.{step-refused}
 
@@ -133,6 +133,5 @@ module _ (fl : Floor) (area : List ℕ) (m : Move) (fit : Fit fl area) where
       let s = stateOf fl area in
       let o = stepAt fl area m in
       let (state, left) = step-next in
-      let after : allSizes (next s m) ≡ sizes (o .floor .received) = ap allSizes (sym state) ∙ floor-sizes (o .floor) (o .area) (left .sized) in
       rw (told-out fl area m, told-new fl area m)
-      (omega (arith, after, next-sizes s (sized-whole fl area (fit .sized)) (shape-limits s (fit .shaped)) m, floor-sizes fl area (fit .sized)))
+      (grown-sizes fl (o .floor) area (o .area) (fit .sized) (left .sized) (next s m) state (bit (isNew s m)) (next-sizes s (sized-whole fl area (fit .sized)) (shape-limits s (fit .shaped)) m))

@@ -61,7 +61,7 @@ fn clock_noted(f: u8, before: DeskSet, after: DeskSet, clock: u32, noted: u32) -
 }
 
 // Whether the clock is later than the noted one by more than 2M+P+A. On a floor out of shape each may be any number.
-pub fn wait_over(settings: Settings, clock: u32, announcers: DeskSet, noted: u32) -> bool
+fn wait_over(settings: Settings, clock: u32, announcers: DeskSet, noted: u32) -> bool
     ensures { λ r. ⌜ r ≡ waitOver settings clock (announcers .0) noted ⌝ }
 {
     let last = noted as u64 + 2 * settings.m as u64 + settings.p as u64 + settings.a as u64;

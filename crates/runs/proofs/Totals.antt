@@ -8,7 +8,7 @@ use native.Mathlib.Omega.{arith}
 use lib.Dec.{eqb}
 use lib.ListN.{length, take, drop}
 use borrow.Author.Tests.{eqb-true, eqb-false}
-use Rattle.sets.proofs.Tests.{decided}
+use Rattle.sets.proofs.Tests.{with-result, decided}
 use Rattle.rules.specs.Rules.{Move}
 use Rattle.rules.specs.NewSources.{sizes, allSizes}
 use Rattle.rules.specs.Running.{run}
@@ -19,7 +19,7 @@ use Rattle.records.specs.declared.Action.{Action}
 use Rattle.floors.specs.Bridge.{settingsOf, stateOf, Sized}
 use Rattle.floors.specs.declared.Floor.{Floor}
 use Rattle.floors.proofs.Bridge.{sized-whole}
-use Rattle.floors.proofs.Sizes.{floor-sizes, no-sizes}
+use Rattle.floors.proofs.Sizes.{floor-sizes, grown-sizes, no-sizes}
 use Rattle.moves.proofs.StepLaws.{Fit}
 use Rattle.actions.specs.Actions.{settingsIn, opened}
 use Rattle.actions.proofs.Calls.{call-either}
@@ -38,9 +38,8 @@ Added before w = sizes (w .out .floor .received) ≡ sizes before + w .total
 same-added : (fl : Floor) (area : List ℕ) → Fit fl area → (most : ℕ) (moves : List Move) (w : Went) → Same 0 0 w (run most (stateOf fl area) moves) → Added (fl .received) w
 same-added fl area fit most moves w same =
     let r = run most (stateOf fl area) moves in
-    let before : allSizes (stateOf fl area) ≡ sizes (fl .received) = floor-sizes fl area (fit .sized) in
-    let after : allSizes (r .state) ≡ sizes (w .out .floor .received) = ap allSizes (sym (same .state)) ∙ floor-sizes (w .out .floor) (w .out .area) (same .fit .sized) in
-    omega (arith, before, after, same .totals, run-sizes most (stateOf fl area) moves (fit .shaped) (sized-whole fl area (fit .sized)))
+    omega (arith, same .totals,
+    grown-sizes fl (w .out .floor) area (w .out .area) (fit .sized) (same .fit .sized) (r .state) (same .state) (r .total) (run-sizes most (stateOf fl area) moves (fit .shaped) (sized-whole fl area (fit .sized))))
 
 went-added : (fl : Floor) → Sized fl → (area bytes : List ℕ) (most : ℕ) → Added (fl .received) (went fl area bytes most)
 went-added fl sized area bytes most =
@@ -80,7 +79,7 @@ whole-added area bytes = whole-either area bytes (λ (w : Went). sizes (w .out .
 -- ---- beside what comes back
 
 pub run-added : (fl : Floor) → Sized fl → (area bytes : List ℕ) (most : ℕ) (w : Went) → w ≡ went fl area bytes most → (w ≡ went fl area bytes most) × Added (fl .received) w
-run-added fl sized area bytes most w e = (e, subst (Added (fl .received)) (sym e) (went-added fl sized area bytes most))
+run-added fl sized area bytes most w e = with-result (Added (fl .received)) (went-added fl sized area bytes most) e
 
 pub whole-total : (area bytes : List ℕ) (w : Went) → w ≡ wholeWent area bytes → (w ≡ wholeWent area bytes) × (sizes (w .out .floor .received) ≡ w .total)
-whole-total area bytes w e = (e, subst (λ (v : Went). sizes (v .out .floor .received) ≡ v .total) (sym e) (whole-added area bytes))
+whole-total area bytes w e = with-result (λ (v : Went). sizes (v .out .floor .received) ≡ v .total) (whole-added area bytes) e

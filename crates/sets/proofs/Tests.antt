@@ -1,5 +1,5 @@
 -- Tests taken apart and put together: what the laws of every crate use of Booleans. Assumes nothing.
-use mathlib.Core.Path.{_≡_, refl, sym, _∙_}
+use mathlib.Core.Path.{_≡_, refl, sym, _∙_, subst}
 use mathlib.Core.Bool.{Bool, true, false, not, cond, _&&_, _||_, or-true, false≢true, true≢false}
 use mathlib.Core.Logic.{_⊎_, inl, inr}
 use mathlib.Core.List.{List, [], _∷_}
@@ -10,6 +10,10 @@ use borrow.Author.Tests.{leb-true, leb-false, not-true, not-false}
 -- A promise `result ≡ definition` allows one result.
 pub one-result : {A : Type 0} {x y definition : A} → x ≡ definition → y ≡ definition → x ≡ y
 one-result p q = p ∙ sym q
+
+-- What holds of the definition holds of the result, beside the promise.
+pub with-result : {A : Type 0} {x definition : A} (Q : A → Type 0) → Q definition → x ≡ definition → (x ≡ definition) × Q x
+with-result Q holds e = (e, subst Q (sym e) holds)
 
 pub clash : {A : Type 0} (b : Bool) → b ≡ true → b ≡ false → A
 clash b t f = absurd (true≢false (sym t ∙ f))
