@@ -13,6 +13,7 @@ use Rattle.floors.specs.declared.Floor.{Floor}
 use Rattle.lines.specs.Lines.{
   Puts,
   decimal,
+  fieldText,
   space,
   lineEnd,
   ranWord,
@@ -28,13 +29,13 @@ use Rattle.lines.specs.Lines.{
   twoNumbers,
   deskLine,
   desksBelow,
-  outcomeText,
+  reportText,
 }
 use Rattle.lines.proofs.PutLaws.{puts-then, puts-within, puts-next, puts-last}
 
 module _ (set e : ℕ) {at end : ℕ} {before after : List ℕ} where
   pub puts-entry : {put : Bool} {next : ℕ} {middle : List ℕ} → put ≡ member set e → Puts (21 * e) before at (entriesBelow e set) middle next
-      → Puts 21 middle next (cond put (space ++ decimal e) []) after end → Puts (21 * (e + 1)) before at (entriesBelow (e + 1) set) after end
+      → Puts 21 middle next (cond put (fieldText space e) []) after end → Puts (21 * (e + 1)) before at (entriesBelow (e + 1) set) after end
   unfolding entriesBelow
   puts-entry h a b = puts-next 21 (λ k. entriesBelow k set) e refl a (rw h at b)
 
@@ -50,19 +51,18 @@ module _ (set : ℕ) {at end : ℕ} {before after : List ℕ} where
   unfolding entriesText
   puts-some h a = rw (cond-false (eqb set 0) noneWord (entriesBelow 64 set) (ne-eqb set 0 h)) a
 
-pub puts-two : (x y : ℕ) {at a b c d end : ℕ} {before first second one two three four after : List ℕ}
-    → Puts (length first) before at first one a → Puts 20 one a (decimal x) two b → Puts (length second) two b second three c → Puts 20 three c (decimal y) four d
-    → Puts 1 four d lineEnd after end → Puts (length first + length second + 41) before at (twoNumbers first x second y) after end
+pub puts-two : (first second : List ℕ) (x y : ℕ) {at a b end : ℕ} {before one two after : List ℕ}
+    → Puts (length first + 20) before at (fieldText first x) one a → Puts (length second + 20) one a (fieldText second y) two b → Puts 1 two b lineEnd after end
+    → Puts (length first + length second + 41) before at (twoNumbers first x second y) after end
 unfolding twoNumbers
-puts-two x y p q r s t = puts-within (puts-then (puts-then (puts-then (puts-then p q) r) s) t) (omega arith)
+puts-two first second x y p q r = puts-within (puts-then (puts-then p q) r) (omega arith)
 
-pub puts-desk : (number : ℕ) (faulty : Bool) (pass accept listed : ℕ) {at a b c d e f g end : ℕ} {before one two three four five six seven after : List ℕ}
-    → Puts 5 before at deskWord one a → Puts 20 one a (decimal number) two b → Puts 8 two b (cond faulty faultyWord goodWord) three c
-    → Puts 20 three c (decimal pass) four d → Puts 1 four d space five e → Puts 20 five e (decimal accept) six f → Puts 1344 six f (entriesText listed) seven g
-    → Puts 1 seven g lineEnd after end → Puts 1419 before at (deskLine number faulty pass accept listed) after end
+pub puts-desk : (number : ℕ) (faulty : Bool) (pass accept listed : ℕ) {at a b c d e end : ℕ} {before one two three four five after : List ℕ}
+    → Puts 25 before at (fieldText deskWord number) one a → Puts 8 one a (cond faulty faultyWord goodWord) two b → Puts 20 two b (decimal pass) three c
+    → Puts 21 three c (fieldText space accept) four d → Puts 1344 four d (entriesText listed) five e → Puts 1 five e lineEnd after end
+    → Puts 1419 before at (deskLine number faulty pass accept listed) after end
 unfolding deskLine
-puts-desk number faulty pass accept listed p q r s t u v w =
-    puts-then (puts-then (puts-then (puts-then (puts-then (puts-then (puts-then p q) r) s) t) u) v) w
+puts-desk number faulty pass accept listed p q r s t u = puts-then (puts-then (puts-then (puts-then (puts-then p q) r) s) t) u
 
 module _ (fl : Floor) (j : ℕ) {at end : ℕ} {before after : List ℕ} where
   pub puts-next-desk : {next : ℕ} {middle : List ℕ} → Puts (1419 * j) before at (desksBelow j fl) middle next
@@ -75,18 +75,19 @@ module _ (fl : Floor) (j : ℕ) {at end : ℕ} {before after : List ℕ} where
       → Puts 22704 before at (desksBelow (min (fl .settings .n) 16) fl) after end
   puts-desks {count} e m h g a = puts-within (rw e at (puts-last 1419 (λ k. desksBelow k fl) j count h g a)) (omega arith)
 
-module _ (count answer : ℕ) (fl : Floor) {end : ℕ} {before after : List ℕ} where
+-- what is below the line of the clock takes at most w bytes
+module _ (w count answer : ℕ) (fl : Floor) (rest : List ℕ) {end : ℕ} {before after : List ℕ} where
   pub puts-no-floor : fl .settings .n ≡ 0 → Puts 53 before 0 (twoNumbers ranWord count answerWord answer) after end
-      → Puts 22813 before 0 (outcomeText count answer fl) after end
-  unfolding outcomeText
+      → Puts (109 + w) before 0 (reportText count answer fl rest) after end
+  unfolding reportText
   puts-no-floor h a =
-      rw (cond-true (eqb (fl .settings .n) 0) [] (twoNumbers clockWord (fl .clock) pendingWord (fl .waiting) ++ desksBelow (min (fl .settings .n) 16) fl) (eq-eqb _ 0 h), append-nil)
+      rw (cond-true (eqb (fl .settings .n) 0) [] (twoNumbers clockWord (fl .clock) pendingWord (fl .waiting) ++ rest) (eq-eqb _ 0 h), append-nil)
       (puts-within a (omega arith))
 
   pub puts-floor : {x y : ℕ} {one two : List ℕ} → (fl .settings .n ≡ 0 → ⊥) → Puts 53 before 0 (twoNumbers ranWord count answerWord answer) one x
-      → Puts 56 one x (twoNumbers clockWord (fl .clock) pendingWord (fl .waiting)) two y → Puts 22704 two y (desksBelow (min (fl .settings .n) 16) fl) after end
-      → Puts 22813 before 0 (outcomeText count answer fl) after end
-  unfolding outcomeText
+      → Puts 56 one x (twoNumbers clockWord (fl .clock) pendingWord (fl .waiting)) two y → Puts w two y rest after end
+      → Puts (109 + w) before 0 (reportText count answer fl rest) after end
+  unfolding reportText
   puts-floor h a b d =
-      rw (cond-false (eqb (fl .settings .n) 0) [] (twoNumbers clockWord (fl .clock) pendingWord (fl .waiting) ++ desksBelow (min (fl .settings .n) 16) fl) (ne-eqb _ 0 h))
-      (puts-then a (puts-then b d))
+      rw (cond-false (eqb (fl .settings .n) 0) [] (twoNumbers clockWord (fl .clock) pendingWord (fl .waiting) ++ rest) (ne-eqb _ 0 h))
+      (puts-within (puts-then a (puts-then b d)) (omega arith))

@@ -7,6 +7,10 @@ use lib.ListN.{length}
 use Rattle.floors.specs.Bridge.{noFloor}
 use Rattle.runs.specs.Runs.{Went, stopped, wholeWent}
 
--- "the program's input above 65,536 bytes" is refused with 16, whatever its bytes are
+-- "the program's input above 65,536 bytes" is refused, whatever its bytes are
+unfoldable pub ofInput : {A : Type 0} → List ℕ → A → A → A
+ofInput input refused taken = cond (ltb 65536 (length input)) refused taken
+
+-- what `floor` runs: with 16
 unfoldable pub inputWent : List ℕ → List ℕ → Went
-inputWent area input = cond (ltb 65536 (length input)) (stopped 16 noFloor area) (wholeWent area input)
+inputWent area input = ofInput input (stopped 16 noFloor area) (wholeWent area input)

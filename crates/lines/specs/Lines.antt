@@ -63,10 +63,14 @@ goodWord = 32 ∷ 103 ∷ 111 ∷ 111 ∷ 100 ∷ 32 ∷ []
 abbrev pub noneWord : List ℕ
 noneWord = 32 ∷ 45 ∷ []
 
+-- a number with a word before it
+abbrev pub fieldText : List ℕ → ℕ → List ℕ
+fieldText before n = before ++ decimal n
+
 -- the entries below k in a set, rising, each with a space in front
 unfoldable pub entriesBelow : ℕ → ℕ → List ℕ
 entriesBelow zero set = []
-entriesBelow (suc k) set = entriesBelow k set ++ cond (member set k) (space ++ decimal k) []
+entriesBelow (suc k) set = entriesBelow k set ++ cond (member set k) (fieldText space k) []
 
 -- the entries of a list, or `-`
 unfoldable pub entriesText : ℕ → List ℕ
@@ -74,11 +78,11 @@ entriesText set = cond (eqb set 0) noneWord (entriesBelow 64 set)
 
 -- a line of two numbers with a word before each
 unfoldable pub twoNumbers : List ℕ → ℕ → List ℕ → ℕ → List ℕ
-twoNumbers first x second y = first ++ decimal x ++ second ++ decimal y ++ lineEnd
+twoNumbers first x second y = fieldText first x ++ fieldText second y ++ lineEnd
 
 unfoldable pub deskLine : ℕ → Bool → ℕ → ℕ → ℕ → List ℕ
 deskLine number faulty pass accept listed =
-    deskWord ++ decimal number ++ cond faulty faultyWord goodWord ++ decimal pass ++ space ++ decimal accept ++ entriesText listed ++ lineEnd
+    fieldText deskWord number ++ cond faulty faultyWord goodWord ++ decimal pass ++ fieldText space accept ++ entriesText listed ++ lineEnd
 
 -- the lines of the desks below k
 unfoldable pub desksBelow : ℕ → Floor → List ℕ
@@ -86,8 +90,12 @@ desksBelow zero fl = []
 desksBelow (suc k) fl =
     desksBelow k fl ++ deskLine k (getD (fl .faulty) k false) (getD (fl .pass) k 0) (getD (fl .accept) k 0) (getD (fl .listed) k 0)
 
--- ALL THAT `floor` PRINTS: one line without a floor. A floor has at most 16 desks.
-unfoldable pub outcomeText : ℕ → ℕ → Floor → List ℕ
-outcomeText count answer fl =
+-- what a program prints of a run: one line without a floor, and otherwise the line of the clock after it, and then the rest
+unfoldable pub reportText : ℕ → ℕ → Floor → List ℕ → List ℕ
+reportText count answer fl rest =
     twoNumbers ranWord count answerWord answer
-    ++ cond (eqb (fl .settings .n) 0) [] (twoNumbers clockWord (fl .clock) pendingWord (fl .waiting) ++ desksBelow (min (fl .settings .n) 16) fl)
+    ++ cond (eqb (fl .settings .n) 0) [] (twoNumbers clockWord (fl .clock) pendingWord (fl .waiting) ++ rest)
+
+-- ALL THAT `floor` PRINTS: the rest is its desks. A floor has at most 16.
+unfoldable pub outcomeText : ℕ → ℕ → Floor → List ℕ
+outcomeText count answer fl = reportText count answer fl (desksBelow (min (fl .settings .n) 16) fl)

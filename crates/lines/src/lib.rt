@@ -7,16 +7,15 @@ use sets::EntryNo;
 use sets::EntrySet;
 ghost use mathlib.Core.Path.{_≡_};
 ghost use mathlib.Core.Bool.{cond};
-ghost use mathlib.Core.List.{[], _++_};
+ghost use mathlib.Core.List.{[]};
 ghost use Prim.Native.Nat.{_+_, _≤_, min};
 ghost use lib.ListN.{length};
 ghost use Rattle.lines.specs.Input.{inputWent};
 ghost use Rattle.lines.specs.Lines.{
   Puts,
   decimal,
+  fieldText,
   space,
-  faultyWord,
-  goodWord,
   entriesBelow,
   entriesText,
   twoNumbers,
@@ -73,13 +72,32 @@ pub fn number(out: &mut [u8], at: usize, n: u64) -> usize
     digits(out, at, n)
 }
 
+// A number with a word before it.
+pub fn field(out: &mut [u8], at: usize, before: &[u8], n: u64) -> usize
+    requires { ⌜ at + (length (now before) + 20) ≤ length (now out) ⌝ }
+    ensures { λ r. ⌜ Puts (length (now (before .entry)) + 20) (now (out .entry)) at (fieldText (now (before .entry)) n) (now (out .exit)) r ⌝ }
+{
+    let next = word(out, at, before);
+    number(out, next, n)
+}
+
+// One of two words. The second is no longer than the first.
+pub fn either(out: &mut [u8], at: usize, holds: bool, yes: &[u8], no: &[u8]) -> usize
+    requires { ⌜ (at + length (now yes) ≤ length (now out)) × (length (now no) ≤ length (now yes)) ⌝ }
+    ensures { λ r. ⌜ Puts (length (now (yes .entry))) (now (out .entry)) at (cond holds (now (yes .entry)) (now (no .entry))) (now (out .exit)) r ⌝ }
+{
+    if holds {
+        return word(out, at, yes);
+    }
+    word(out, at, no)
+}
+
 fn entry_if(out: &mut [u8], at: usize, entry: u8, put: bool) -> usize
     requires { ⌜ at + 21 ≤ length (now out) ⌝ }
-    ensures { λ r. ⌜ Puts 21 (now (out .entry)) at (cond put (space ++ decimal entry) []) (now (out .exit)) r ⌝ }
+    ensures { λ r. ⌜ Puts 21 (now (out .entry)) at (cond put (fieldText space entry) []) (now (out .exit)) r ⌝ }
 {
     if put {
-        let next = word(out, at, b" ");
-        return number(out, next, entry as u64);
+        return field(out, at, b" ", entry as u64);
     }
     at
 }
@@ -107,16 +125,6 @@ fn entries_or_none(out: &mut [u8], at: usize, listed: EntrySet) -> usize
     entries(out, at, listed)
 }
 
-fn mark(out: &mut [u8], at: usize, faulty: bool) -> usize
-    requires { ⌜ at + 8 ≤ length (now out) ⌝ }
-    ensures { λ r. ⌜ Puts 8 (now (out .entry)) at (cond faulty faultyWord goodWord) (now (out .exit)) r ⌝ }
-{
-    if faulty {
-        return word(out, at, b" faulty ");
-    }
-    word(out, at, b" good ")
-}
-
 fn desk(
     out: &mut [u8],
     at: usize,
@@ -129,14 +137,12 @@ fn desk(
     requires { ⌜ at + 1419 ≤ length (now out) ⌝ }
     ensures { λ r. ⌜ Puts 1419 (now (out .entry)) at (deskLine place faulty pass accept (listed .0)) (now (out .exit)) r ⌝ }
 {
-    let a = word(out, at, b"desk ");
-    let b = number(out, a, place as u64);
-    let c = mark(out, b, faulty);
-    let d = number(out, c, pass as u64);
-    let e = word(out, d, b" ");
-    let f = number(out, e, accept as u64);
-    let g = entries_or_none(out, f, listed);
-    word(out, g, b"\n")
+    let a = field(out, at, b"desk ", place as u64);
+    let b = either(out, a, faulty, b" faulty ", b" good ");
+    let c = number(out, b, pass as u64);
+    let d = field(out, c, b" ", accept as u64);
+    let e = entries_or_none(out, d, listed);
+    word(out, e, b"\n")
 }
 
 // A floor has at most 16 desks.
@@ -170,15 +176,13 @@ fn desks(out: &mut [u8], at: usize, floor: Floor) -> usize
 }
 
 // A line of two numbers with a word before each.
-fn two_numbers(out: &mut [u8], at: usize, first: &[u8], x: u64, second: &[u8], y: u64) -> usize
+pub fn two_numbers(out: &mut [u8], at: usize, first: &[u8], x: u64, second: &[u8], y: u64) -> usize
     requires { ⌜ at + (length (now first) + length (now second) + 41) ≤ length (now out) ⌝ }
     ensures { λ r. ⌜ Puts (length (now (first .entry)) + length (now (second .entry)) + 41) (now (out .entry)) at (twoNumbers (now (first .entry)) x (now (second .entry)) y) (now (out .exit)) r ⌝ }
 {
-    let a = word(out, at, first);
-    let b = number(out, a, x);
-    let c = word(out, b, second);
-    let d = number(out, c, y);
-    word(out, d, b"\n")
+    let a = field(out, at, first, x);
+    let b = field(out, a, second, y);
+    word(out, b, b"\n")
 }
 
 // All that `floor` prints.

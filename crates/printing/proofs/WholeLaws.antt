@@ -14,7 +14,6 @@ use Rattle.rules.specs.Rules.{unknown, firstOf, mostNotes}
 use Rattle.records.specs.Records.{wellFormed, actionOf, recordAt}
 use Rattle.records.specs.declared.Action.{Action}
 use Rattle.floors.specs.Bridge.{noFloor}
-use Rattle.floors.specs.declared.Floor.{Floor}
 use Rattle.actions.specs.Actions.{moveOf, opened}
 use Rattle.actions.proofs.Calls.{kind-none, malformed}
 use Rattle.actions.proofs.Openings.{opened-none}
@@ -87,11 +86,11 @@ unfolding openedHold
 opened-alike area x y e = rw e
 
 module _ (area bytes : List ℕ) where
-  -- fl is the floor of zeros, and h the hold of it
-  pub taken-refused : (number : ℕ) → eqb number 0 ≡ false → firstOf (wholeChecks area bytes) ≡ number → (fl : Floor) → fl ≡ noFloor → (h : Hold) → h ≡ newHold fl
+  -- h is the hold that is none
+  pub taken-refused : (number : ℕ) → eqb number 0 ≡ false → firstOf (wholeChecks area bytes) ≡ number → (h : Hold) → h ≡ newHold noFloor
       → record { count = 0; out = refusing number h area } ≡ wholeTaken area bytes
   unfolding wholeTaken
-  taken-refused number some e fl none h new = rw (e, some, new, none)
+  taken-refused number some e h none = rw (e, some, none)
 
   module _ (long : length area ≡ mostNotes) (h : (eqb (length bytes) 0 || not (eqb (length bytes % 16) 0)) ≡ false) where
     first : wholeTaken area bytes ≡ takenAfter (openedHold area (actionOf (take 16 bytes))) bytes

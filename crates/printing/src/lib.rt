@@ -16,6 +16,7 @@ ghost use mathlib.Core.Path.{_≡_};
 ghost use mathlib.Core.Bool.{cond, not, _&&_};
 ghost use Prim.Native.Nat.{_<_};
 ghost use lib.ListN.{length};
+ghost use Rattle.floors.specs.Bridge.{noFloor};
 ghost use Rattle.printing.specs.Holding.{
   begun,
   clockNoted,
@@ -44,7 +45,7 @@ pub struct Held {
 }
 
 // Whether f+1 different desks have announced: the wait has begun.
-fn has_begun(f: u8, announcers: DeskSet) -> bool
+pub fn has_begun(f: u8, announcers: DeskSet) -> bool
     ensures { λ r. ⌜ r ≡ begun f (announcers .0) ⌝ }
 {
     f < announcers.size()
@@ -79,6 +80,13 @@ impl Hold {
             noted: [0; 64],
             printed: EntrySet::empty(),
         }
+    }
+
+    // A hold that is none: no floor, and nothing noted.
+    pub fn none() -> Hold
+        ensures { λ r. ⌜ r ≡ newHold noFloor ⌝ }
+    {
+        Hold::new(Floor::none())
     }
 
     fn with_floor(self, floor: Floor) -> Hold

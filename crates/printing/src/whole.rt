@@ -3,7 +3,6 @@ use crate::Held;
 use crate::Hold;
 use crate::open;
 use crate::take;
-use floors::Floor;
 use floors::Settings;
 use records::Action;
 use sets::DeskNo;
@@ -75,14 +74,14 @@ pub fn whole(area: &mut [u64], sequence: &[u8]) -> Taken
         return Taken {
             count: 0,
             answer: 15,
-            hold: Hold::new(Floor::none()),
+            hold: Hold::none(),
         };
     }
     if (sequence.len() == 0) | (sequence.len() % 16 != 0) {
         return Taken {
             count: 0,
             answer: 16,
-            hold: Hold::new(Floor::none()),
+            hold: Hold::none(),
         };
     }
     let reading = records::read(&sequence[..16]);

@@ -1,5 +1,6 @@
 -- `lines::outcome` meets its contract. Assumes nothing.
 use borrow.Author.Needs.{needs}
+use Rattle.lines.specs.Lines.{outcomeText}
 use Rattle.lines.proofs.LineLaws.{puts-no-floor, puts-floor}
 use Rattle.lines.proofs.outcome.Statement.{statement}
 use Rattle.lines.proofs.outcome.Tie as tie
@@ -17,7 +18,8 @@ same-length : tie.Need-same-length
 same-length c = search needs
 
 returns : tie.Need-returns
-returns c = search puts-no-floor
+unfolding outcomeText
+returns c = search (puts-no-floor 22704)
 
 slice-aggregate-two-numbers-3 : tie.Need-slice-aggregate-two-numbers-3
 slice-aggregate-two-numbers-3 c = search needs
@@ -38,7 +40,8 @@ same-length-2 : tie.Need-same-length-2
 same-length-2 c = search needs
 
 returns-2 : tie.Need-returns-2
-returns-2 c = search puts-floor
+unfolding outcomeText
+returns-2 c = search (puts-floor 22704)
 
 pub outcome-spec : {M : Type 1} → statement M
 outcome-spec =

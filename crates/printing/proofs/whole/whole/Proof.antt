@@ -42,22 +42,16 @@ opening c =
 none-requires : tie.Need-none-requires
 none-requires c κs = search needs
 
-new-requires : tie.Need-new-requires
-new-requires c κs = search needs
-
 returns : tie.Need-returns
-returns c = taken-refused _ _ 15 refl (number-15 _ _ (c .before .before .if1 .taken)) _ (c .before .none .ensures) _ (c .new .ensures)
+returns c = taken-refused _ _ 15 refl (number-15 _ _ (c .before .if1 .taken)) _ (c .none .ensures)
 
 none-requires-2 : tie.Need-none-requires-2
 none-requires-2 c κs = search needs
 
-new-requires-2 : tie.Need-new-requires-2
-new-requires-2 c κs = search needs
-
 returns-2 : tie.Need-returns-2
 returns-2 c =
-    let ragged = c .before .before in
-    taken-refused _ _ 16 refl (number-16 _ _ (ragged .before .if1 .left) (ragged .if2 .taken)) _ (c .before .none2 .ensures) _ (c .new2 .ensures)
+    let ragged = c .before in
+    taken-refused _ _ 16 refl (number-16 _ _ (ragged .before .if1 .left) (ragged .if2 .taken)) _ (c .none2 .ensures)
 
 slice-aggregate-read : tie.Need-slice-aggregate-read
 slice-aggregate-read c = sym (sixteen (c .before))
@@ -106,10 +100,8 @@ whole-spec =
     tie.close
     (tie.spec
     none-requires
-    new-requires
     returns
     none-requires-2
-    new-requires-2
     returns-2
     slice-aggregate-read
     read-requires

@@ -1,0 +1,20 @@
+-- `lines::field` meets its contract. Assumes nothing.
+use borrow.Author.Needs.{needs}
+use Rattle.lines.proofs.PutLaws.{puts-then}
+use Rattle.lines.proofs.field.Statement.{statement}
+use Rattle.lines.proofs.field.Tie as tie
+
+word-requires : tie.Need-word-requires
+word-requires c κs = search needs
+
+number-requires : tie.Need-number-requires
+number-requires c κs = search needs
+
+same-length : tie.Need-same-length
+same-length c = search needs
+
+returns : tie.Need-returns
+returns c = search puts-then
+
+pub field-spec : {M : Type 1} → statement M
+field-spec = tie.close (tie.spec word-requires number-requires same-length returns)
