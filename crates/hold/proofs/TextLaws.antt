@@ -10,9 +10,10 @@ use Rattle.sets.proofs.Tests.{was-true, was-false}
 use Rattle.floors.specs.declared.Settings.{Settings}
 use Rattle.lines.specs.Lines.{Puts, fieldText, lineEnd}
 use Rattle.lines.proofs.PutLaws.{puts-nothing, puts-then, puts-within, puts-next, puts-last}
+use Rattle.noting.specs.Entry.{begun, waitOver}
+use Rattle.noting.proofs.EntryLaws.{over-by}
 use Rattle.printing.specs.declared.Hold.{Hold}
-use Rattle.printing.specs.Holding.{begun, waitOver, notedAt, begunAt, mayPrint}
-use Rattle.printing.proofs.EntryLaws.{over-by}
+use Rattle.printing.specs.Holding.{notedAt, begunAt, mayPrint}
 use Rattle.hold.specs.Text.{
   entryWord,
   notedWord,

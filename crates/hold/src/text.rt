@@ -6,7 +6,7 @@ use lines::field;
 use lines::two_numbers;
 use lines::word;
 use printing::Hold;
-use printing::has_begun;
+use noting::has_begun;
 use printing::may_print;
 use sets::DeskSet;
 use sets::EntryNo;

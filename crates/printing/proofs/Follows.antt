@@ -28,12 +28,14 @@ use Rattle.actions.specs.Actions.{moveOf, settingsIn, acted, opened}
 use Rattle.actions.proofs.Calls.{act-next}
 use Rattle.actions.proofs.Openings.{opened-state, opened-fit}
 use Rattle.printing.specs.declared.Hold.{Hold}
-use Rattle.printing.specs.Holding.{begun, clockNoted, announcersAt, notedAt, begunAt, isPrinted, waitOverAt, newHold, withFloor, announcing, withPrinted, notedInShape, Holding, openedHold, taking, took, mayPrint, printed}
-use Rattle.printing.proofs.EntryLaws.{noted-again}
+use Rattle.noting.specs.Entry.{begun, clockNoted}
+use Rattle.printing.specs.Holding.{announcersAt, notedAt, begunAt, isPrinted, waitOverAt, newHold, withFloor, announcing, withPrinted, notedInShape, Holding, openedHold, taking, took, mayPrint, printed}
+use Rattle.noting.proofs.EntryLaws.{noted-again}
 use Rattle.printing.proofs.HoldLaws.{announced-below, took-acted, printed-either}
 use Rattle.printing.proofs.ActionLaws.{settings-stay, clock-on, marks-stay, announcer-below, mark-set, announces-own, announces-no-other, announces-none}
-use Rattle.printing.proofs.Noting.{one-more, Noting, noting-none, noting-other, noting-announced}
-use Rattle.printing.proofs.ShapeKept.{EntryShape, EntryShapeAt, noted-each, each-noted, more-begun, later-shape, announced-shape, printed-shape, nothing-noted}
+use Rattle.noting.proofs.Noting.{one-more, Noting, noting-none, noting-other, noting-announced}
+use Rattle.noting.proofs.ShapeKept.{EntryShape, more-begun, later-shape, announced-shape, printed-shape}
+use Rattle.printing.proofs.ShapeLaws.{noted-each, each-noted, nothing-noted}
 
 module _ (k : rules.Settings) (few : k .n ≤ 16) where
   pub record Follows (moves : List Move) (h : Hold) (area : List ℕ) : Type 0 where

@@ -23,8 +23,8 @@ use Rattle.moves.specs.Moves.{Outcome, Told, noneNew}
 use Rattle.actions.specs.Actions.{moveOf, wrongArea, acted, opened}
 use Rattle.actions.proofs.Calls.{area-fails, area-passes, call-15, call-1, call-passes, call-clear, act-done, act-refused, act-unknown, act-same, act-announces}
 use Rattle.printing.specs.declared.Hold.{Hold}
+use Rattle.noting.specs.Entry.{clockNoted}
 use Rattle.printing.specs.Holding.{
-  clockNoted,
   announcersAt,
   notedAt,
   begunAt,

@@ -28,12 +28,14 @@ use Rattle.actions.specs.Actions.{moveOf, settingsIn, opened}
 use Rattle.actions.proofs.Calls.{fit-shape, act-answer}
 use Rattle.actions.proofs.Openings as openings
 use Rattle.printing.specs.declared.Hold.{Hold}
-use Rattle.printing.specs.Holding.{begun, announcersAt, notedAt, begunAt, waitOverAt, isPrinted, withPrinted, notedInShape, Holding, refusing, openedHold, took, mayPrint, printed}
+use Rattle.noting.specs.Entry.{begun}
+use Rattle.printing.specs.Holding.{announcersAt, notedAt, begunAt, waitOverAt, isPrinted, withPrinted, notedInShape, Holding, refusing, openedHold, took, mayPrint, printed}
 use Rattle.printing.specs.Steps.{Step, action, print, stepped, leftBy, movesOf, isPrintOf, timesPrinted}
-use Rattle.printing.specs.Promise.{FirstBy, WaitIsOver, Promised}
-use Rattle.printing.proofs.EntryLaws.{over-parts, parts-over}
+use Rattle.noting.specs.FirstClock.{FirstBy}
+use Rattle.printing.specs.Promise.{WaitIsOver, Promised}
+use Rattle.noting.proofs.EntryLaws.{over-parts, parts-over}
 use Rattle.printing.proofs.HoldLaws.{took-acted, took-printed, may-5, may-17, may-18, may-0, may-parts, print-answer, printed-either, printed-noted}
-use Rattle.printing.proofs.Noting.{Noting, announced-begun}
+use Rattle.noting.proofs.Noting.{Noting, announced-begun}
 use Rattle.printing.proofs.Follows.{Follows, opened-with, took-follows, took-noted, printed-follows, opened-follows}
 
 -- ---- what follows the rules has the promise

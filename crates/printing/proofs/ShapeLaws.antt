@@ -1,30 +1,16 @@
--- The shape of what a hold has beside its floor: what the check computes. Assumes nothing.
+-- The shape of what a hold has beside its floor: what the check computes, and what every entry then has. Assumes nothing.
 use mathlib.Core.Path.{_≡_, sym}
-use mathlib.Core.Bool.{Bool, not, cond, _&&_, _||_}
-use mathlib.Core.List.{List}
-use Prim.Native.Nat.{ℕ, _+_}
-use lib.Dec.{leb, ltb}
-use lib.ListN.{getD}
-use Rattle.sets.specs.Sets.{member, allBelow}
+use mathlib.Core.Bool.{Bool, true, _&&_}
+use Prim.Native.Nat.{ℕ, _+_, _<_}
+use lib.ListN.{getD-replicate}
+use Rattle.sets.proofs.MemberLaws.{member-zero}
 use Rattle.rules.specs.Rules.{everyBelow}
-use Rattle.rules.proofs.DeskLaws.{below-step}
-use Rattle.floors.specs.declared.Settings.{Settings}
+use Rattle.rules.proofs.DeskLaws.{below-step, below-each, each-below}
+use Rattle.floors.specs.declared.Floor.{Floor}
+use Rattle.noting.specs.Entry.{entryInShape}
+use Rattle.noting.proofs.ShapeKept.{EntryShape, shape-entry, entry-shape, none-shape}
 use Rattle.printing.specs.declared.Hold.{Hold}
-use Rattle.printing.specs.Holding.{begun, waitOver, announcersAt, notedAt, isPrinted, sentBy, entryInShape, entryInShapeAt, notedInShape}
-
--- one desk more: has and marked are what the calls answered
-pub sent-turn : (sent : List ℕ) (announcers e i : ℕ) (all has marked : Bool) → all ≡ everyBelow (sentBy sent announcers e) i → has ≡ member announcers i → marked ≡ member (getD sent i 0) e
-    → (all && (not has || marked)) ≡ everyBelow (sentBy sent announcers e) (i + 1)
-unfolding sentBy
-sent-turn sent announcers e i all has marked p q r = rw (p, q, r) (sym (below-step (sentBy sent announcers e) i))
-
--- the four tests of an entry, as the calls answered them
-pub entry-by : (k : Settings) (clock : ℕ) (sent : List ℕ) (announcers noted : ℕ) (printed : Bool) (e most last : ℕ) (inside marked over : Bool)
-    → most ≡ cond (ltb e (k .u)) (k .n) 0 → inside ≡ allBelow most announcers → marked ≡ everyBelow (sentBy sent announcers e) 16
-    → last ≡ cond (begun (k .f) announcers) clock 0 → over ≡ waitOver k clock announcers noted
-    → (inside && marked && leb noted last && (not printed || over)) ≡ entryInShape k clock sent announcers noted printed e
-unfolding entryInShape
-entry-by k clock sent announcers noted printed e most last inside marked over p q r s t = rw (q, p, r, s, t)
+use Rattle.printing.specs.Holding.{announcersAt, notedAt, isPrinted, newHold, entryInShapeAt, notedInShape}
 
 -- one entry more: fits is what the call answered, and was whether it is printed
 pub entries-turn : (h : Hold) (e : ℕ) (all fits was : Bool) → all ≡ everyBelow (entryInShapeAt h) e → was ≡ isPrinted h e
@@ -36,3 +22,20 @@ entries-turn h e all fits was p q r = rw (p, r, q) (sym (below-step (entryInShap
 pub entries-end : (h : Hold) (e : ℕ) (all : Bool) → e ≡ 64 → all ≡ everyBelow (entryInShapeAt h) e → all ≡ notedInShape h
 unfolding notedInShape
 entries-end h e all end p = rw (p, end)
+
+-- every entry of a hold
+abbrev pub EntryShapeAt : Hold → ℕ → Type 0
+EntryShapeAt h e = EntryShape (h .floor .settings) (h .floor .clock) (h .floor .sent) (announcersAt h e) (notedAt h e) (isPrinted h e) e
+
+module _ (h : Hold) where
+  pub noted-each : notedInShape h ≡ true → (e : ℕ) → e < 64 → EntryShapeAt h e
+  unfolding notedInShape entryInShapeAt
+  noted-each ok e l = shape-entry (h .floor .settings) (h .floor .clock) (h .floor .sent) (announcersAt h e) (notedAt h e) (isPrinted h e) e (below-each (entryInShapeAt h) 64 ok e l)
+
+  pub each-noted : ((e : ℕ) → e < 64 → EntryShapeAt h e) → notedInShape h ≡ true
+  unfolding notedInShape entryInShapeAt
+  each-noted ok = each-below (entryInShapeAt h) 64 (λ e l. entry-shape (h .floor .settings) (h .floor .clock) (h .floor .sent) (announcersAt h e) (notedAt h e) (isPrinted h e) e (ok e l))
+
+-- nothing is noted of any entry
+pub nothing-noted : (fl : Floor) → notedInShape (newHold fl) ≡ true
+nothing-noted fl = each-noted (newHold fl) (λ e l. rw (getD-replicate {A = ℕ} 64 e 0 0 l) (none-shape (fl .settings) (fl .clock) (fl .sent) (isPrinted (newHold fl) e) e (member-zero e)))

@@ -174,7 +174,7 @@ module _ (area bytes : List ℕ) where
   -- refused before it opens
   refused-same : (number : ℕ) → eqb number 0 ≡ false → firstOf (wholeChecks area bytes) ≡ number → stopped number noFloor area ≡ wholeWent area bytes → Same (wholeTaken area bytes) (wholeWent area bytes)
   refused-same number some e w =
-      subst (λ (t : Taken). Same t (wholeWent area bytes)) (taken-refused area bytes number some e noFloor refl (newHold noFloor) refl)
+      subst (λ (t : Taken). Same t (wholeWent area bytes)) (taken-refused area bytes number some e (newHold noFloor) refl)
       (subst (Same (record { count = 0; out = refusing number (newHold noFloor) area })) w refl)
 
   pub whole-same : Same (wholeTaken area bytes) (wholeWent area bytes)

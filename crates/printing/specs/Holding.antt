@@ -1,31 +1,17 @@
--- T-02, 'Hold the printer': what is noted of each entry, when its sticker may be printed, and the calls. Assumes nothing.
-use mathlib.Core.Bool.{Bool, true, not, cond, _&&_, _||_}
+-- T-02, 'Hold the printer': the hold, and its calls. Assumes nothing.
+use mathlib.Core.Bool.{Bool, not, cond, _&&_}
 use mathlib.Core.List.{List, [], _∷_, _++_}
-use Prim.Native.Nat.{ℕ, _+_, _*_}
-use lib.Dec.{eqb, leb, ltb}
+use Prim.Native.Nat.{ℕ}
+use lib.Dec.{eqb, ltb}
 use lib.ListN.{getD, set, replicate}
-use Rattle.sets.specs.Sets.{member, insertBelow, size, allBelow}
+use Rattle.sets.specs.Sets.{member, insertBelow, size}
 use Rattle.rules.specs.Rules.{Check, _when_, firstOf, everyBelow}
 use Rattle.records.specs.declared.Action.{Action}
-use Rattle.floors.specs.declared.Settings.{Settings}
 use Rattle.floors.specs.declared.Floor.{Floor}
 use Rattle.moves.specs.Moves.{Outcome}
 use Rattle.actions.specs.Actions.{wrongArea, callChecks, acted, opened}
+use Rattle.noting.specs.Entry.{begun, clockNoted, waitOver, entryInShape}
 use Rattle.printing.specs.declared.Hold.{Hold}
-
--- ---- an entry
-
--- its announcers are the "different" desks that have "carried out an announcement" of it; the wait has begun with the f+1st
-unfoldable pub begun : ℕ → ℕ → Bool
-begun f announcers = leb (f + 1) (size 16 announcers)
-
--- "the clock at which the f+1st different desk first carried out an announcement"; "a repeated announcement never moves the noted clock"
-unfoldable pub clockNoted : ℕ → ℕ → ℕ → ℕ → ℕ → ℕ
-clockNoted f before after clock noted = cond (not (begun f before) && begun f after) clock noted
-
--- "when the clock is later than that by more than 2M+P+A and not before"
-unfoldable pub waitOver : Settings → ℕ → ℕ → ℕ → Bool
-waitOver k clock announcers noted = begun (k .f) announcers && ltb (noted + 2 * k .m + k .p + k .a) clock
 
 -- ---- a hold: the floor, and beside it for each entry its announcers, the noted clock, and whether its sticker was printed
 
@@ -67,19 +53,6 @@ abbrev pub withPrinted : Hold → ℕ → Hold
 withPrinted h e = record { floor = h .floor; announcers = h .announcers; noted = h .noted; printed = record { 0 = insertBelow 64 (h .printed .0) e } }
 
 -- ---- in shape: what every action and every print keeps
-
--- who has announced an entry has its sent mark
-unfoldable pub sentBy : List ℕ → ℕ → ℕ → ℕ → Bool
-sentBy sent announcers e i = not (member announcers i) || member (getD sent i 0) e
-
--- announcers only below n, of entries below U; no clock before the wait has begun, and none still to come; nothing printed before the
--- wait is over
-unfoldable pub entryInShape : Settings → ℕ → List ℕ → ℕ → ℕ → Bool → ℕ → Bool
-entryInShape k clock sent announcers noted printed e =
-    allBelow (cond (ltb e (k .u)) (k .n) 0) announcers
-    && everyBelow (sentBy sent announcers e) 16
-    && leb noted (cond (begun (k .f) announcers) clock 0)
-    && (not printed || waitOver k clock announcers noted)
 
 unfoldable pub entryInShapeAt : Hold → ℕ → Bool
 entryInShapeAt h e = entryInShape (h .floor .settings) (h .floor .clock) (h .floor .sent) (announcersAt h e) (notedAt h e) (isPrinted h e) e

@@ -9,12 +9,9 @@ use Rattle.agreement.specs.Demand.{floorAfter, AnnouncedBy, LaterThanWait, OnEv
 use Rattle.records.specs.declared.Action.{Action}
 use Rattle.floors.specs.Bridge.{stateOf}
 use Rattle.actions.specs.Actions.{moveOf}
+use Rattle.noting.specs.FirstClock.{FirstBy}
 use Rattle.printing.specs.declared.Hold.{Hold}
 use Rattle.printing.specs.Holding.{notedAt, begunAt, isPrinted, took, mayPrint, printed}
-
--- T is the first clock by which f+1 different desks have carried out an announcement of entry e
-abbrev pub FirstBy : Settings → ℕ → List Move → ℕ → Type 0
-FirstBy k e moves T = AnnouncedBy k e moves T × ((t : ℕ) → AnnouncedBy k e moves t → T ≤ t)
 
 -- by some clock they have, and the state is later than that by more than the wait
 abbrev pub WaitIsOver : Settings → ℕ → List Move → Type 0

@@ -6,6 +6,8 @@ pub mod whole;
 use actions::act;
 use floors::Floor;
 use floors::Settings;
+use noting::clock_noted;
+use noting::wait_over;
 use records::Action;
 use sets::DeskNo;
 use sets::DeskSet;
@@ -18,9 +20,6 @@ ghost use Prim.Native.Nat.{_<_};
 ghost use lib.ListN.{length};
 ghost use Rattle.floors.specs.Bridge.{noFloor};
 ghost use Rattle.printing.specs.Holding.{
-  begun,
-  clockNoted,
-  waitOver,
   newHold,
   withFloor,
   announcing,
@@ -42,31 +41,6 @@ pub struct Hold {
 pub struct Held {
     pub answer: u8,
     pub hold: Hold,
-}
-
-// Whether f+1 different desks have announced: the wait has begun.
-pub fn has_begun(f: u8, announcers: DeskSet) -> bool
-    ensures { λ r. ⌜ r ≡ begun f (announcers .0) ⌝ }
-{
-    f < announcers.size()
-}
-
-fn clock_noted(f: u8, before: DeskSet, after: DeskSet, clock: u32, noted: u32) -> u32
-    ensures { λ r. ⌜ r ≡ clockNoted f (before .0) (after .0) clock noted ⌝ }
-{
-    if !has_begun(f, before) & has_begun(f, after) {
-        clock
-    } else {
-        noted
-    }
-}
-
-// Whether the clock is later than the noted one by more than 2M+P+A. On a floor out of shape each may be any number.
-fn wait_over(settings: Settings, clock: u32, announcers: DeskSet, noted: u32) -> bool
-    ensures { λ r. ⌜ r ≡ waitOver settings clock (announcers .0) noted ⌝ }
-{
-    let last = noted as u64 + 2 * settings.m as u64 + settings.p as u64 + settings.a as u64;
-    has_begun(settings.f, announcers) & (last < clock as u64)
 }
 
 impl Hold {

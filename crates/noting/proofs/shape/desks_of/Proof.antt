@@ -1,9 +1,9 @@
--- `printing::shape::desks_of` meets its contract. Assumes nothing.
+-- `noting::shape::desks_of` meets its contract. Assumes nothing.
 use mathlib.Core.Path.{sym}
 use borrow.Author.Tests.{lt-ltb, le-ltb}
 use Rattle.sets.proofs.Tests.{cond-true, cond-false}
-use Rattle.printing.proofs.shape.desks_of.Statement.{statement}
-use Rattle.printing.proofs.shape.desks_of.Tie as tie
+use Rattle.noting.proofs.shape.desks_of.Statement.{statement}
+use Rattle.noting.proofs.shape.desks_of.Tie as tie
 
 returns : tie.Need-returns
 returns c = sym (cond-true _ _ _ (lt-ltb _ _ (c .if1 .taken)))

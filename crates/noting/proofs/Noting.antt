@@ -22,9 +22,9 @@ use Rattle.agreement.specs.Demand.{announces, view, floorAfter, AnnouncedBy}
 use Rattle.agreement.proofs.AfterLaws.{after-none, after-next, after-both}
 use Rattle.agreement.proofs.Spread.{announced-none, announced-last, announced-later}
 use Rattle.agreement.proofs.Demand3.{announced-more}
-use Rattle.printing.specs.Holding.{begun, clockNoted}
-use Rattle.printing.specs.Promise.{FirstBy}
-use Rattle.printing.proofs.EntryLaws.{enough-begun, begun-enough, noted-first, noted-again}
+use Rattle.noting.specs.Entry.{begun, clockNoted}
+use Rattle.noting.specs.FirstClock.{FirstBy}
+use Rattle.noting.proofs.EntryLaws.{enough-begun, begun-enough, noted-first, noted-again}
 
 -- with one move more the floor is the rules' next
 pub one-more : (k : Settings) (moves : List Move) (m : Move) → floorAfter k (moves ++ m ∷ []) ≡ next (floorAfter k moves) m

@@ -1,14 +1,14 @@
--- `printing::shape::all_sent` meets its contract. The invariant: `all` says whether the first i desks have the mark, if they have announced. Assumes nothing.
+-- `noting::shape::all_sent` meets its contract. The invariant: `all` says whether the first i desks have the mark, if they have announced. Assumes nothing.
 use mathlib.Core.Path.{_≡_, sym, ap, _∙_}
 use Prim.Native.Nat.{_≤_, _-_}
 use native.Mathlib.Omega.{arith}
 use borrow.Author.Needs.{needs}
 use Rattle.rules.specs.Rules.{everyBelow}
 use Rattle.rules.proofs.DeskLaws.{below-start}
-use Rattle.printing.specs.Holding.{sentBy}
-use Rattle.printing.proofs.ShapeLaws.{sent-turn}
-use Rattle.printing.proofs.shape.all_sent.Statement.{statement}
-use Rattle.printing.proofs.shape.all_sent.Tie as tie
+use Rattle.noting.specs.Entry.{sentBy}
+use Rattle.noting.proofs.ShapeLaws.{sent-turn}
+use Rattle.noting.proofs.shape.all_sent.Statement.{statement}
+use Rattle.noting.proofs.shape.all_sent.Tie as tie
 
 abbrev Inv-loop : tie.InvT-loop
 Inv-loop sent announcers entry all₀ i₀ all i = (i ≤ 16) × (all ≡ everyBelow (sentBy sent (announcers .0) (entry .0)) i)

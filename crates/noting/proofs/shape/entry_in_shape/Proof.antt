@@ -1,8 +1,8 @@
--- `printing::shape::entry_in_shape` meets its contract. Assumes nothing.
+-- `noting::shape::entry_in_shape` meets its contract. Assumes nothing.
 use borrow.Author.Needs.{needs}
-use Rattle.printing.proofs.ShapeLaws.{entry-by}
-use Rattle.printing.proofs.shape.entry_in_shape.Statement.{statement}
-use Rattle.printing.proofs.shape.entry_in_shape.Tie as tie
+use Rattle.noting.proofs.ShapeLaws.{entry-by}
+use Rattle.noting.proofs.shape.entry_in_shape.Statement.{statement}
+use Rattle.noting.proofs.shape.entry_in_shape.Tie as tie
 
 desks-of-requires : tie.Need-desks-of-requires
 desks-of-requires c κs = search needs

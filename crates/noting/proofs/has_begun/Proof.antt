@@ -1,8 +1,8 @@
--- `printing::has_begun` meets its contract. Assumes nothing.
+-- `noting::has_begun` meets its contract. Assumes nothing.
 use borrow.Author.Needs.{needs}
-use Rattle.printing.proofs.EntryLaws.{begun-by}
-use Rattle.printing.proofs.has_begun.Statement.{statement}
-use Rattle.printing.proofs.has_begun.Tie as tie
+use Rattle.noting.proofs.EntryLaws.{begun-by}
+use Rattle.noting.proofs.has_begun.Statement.{statement}
+use Rattle.noting.proofs.has_begun.Tie as tie
 
 size-requires : tie.Need-size-requires
 size-requires c κs = search needs

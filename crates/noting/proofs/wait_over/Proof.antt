@@ -1,8 +1,8 @@
--- `printing::wait_over` meets its contract. Assumes nothing.
+-- `noting::wait_over` meets its contract. Assumes nothing.
 use borrow.Author.Needs.{needs}
-use Rattle.printing.proofs.EntryLaws.{over-by}
-use Rattle.printing.proofs.wait_over.Statement.{statement}
-use Rattle.printing.proofs.wait_over.Tie as tie
+use Rattle.noting.proofs.EntryLaws.{over-by}
+use Rattle.noting.proofs.wait_over.Statement.{statement}
+use Rattle.noting.proofs.wait_over.Tie as tie
 
 cast-last : tie.Need-cast-last
 cast-last c = search needs

@@ -1,9 +1,9 @@
--- `printing::shape::last_noted` meets its contract. Assumes nothing.
+-- `noting::shape::last_noted` meets its contract. Assumes nothing.
 use mathlib.Core.Path.{sym, _∙_}
 use borrow.Author.Needs.{needs}
 use Rattle.sets.proofs.Tests.{cond-true, cond-false}
-use Rattle.printing.proofs.shape.last_noted.Statement.{statement}
-use Rattle.printing.proofs.shape.last_noted.Tie as tie
+use Rattle.noting.proofs.shape.last_noted.Statement.{statement}
+use Rattle.noting.proofs.shape.last_noted.Tie as tie
 
 has-begun-requires : tie.Need-has-begun-requires
 has-begun-requires c κs = search needs

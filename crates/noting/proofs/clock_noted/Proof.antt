@@ -1,8 +1,8 @@
--- `printing::clock_noted` meets its contract. Assumes nothing.
+-- `noting::clock_noted` meets its contract. Assumes nothing.
 use borrow.Author.Needs.{needs}
-use Rattle.printing.proofs.EntryLaws.{noted-now, noted-still}
-use Rattle.printing.proofs.clock_noted.Statement.{statement}
-use Rattle.printing.proofs.clock_noted.Tie as tie
+use Rattle.noting.proofs.EntryLaws.{noted-now, noted-still}
+use Rattle.noting.proofs.clock_noted.Statement.{statement}
+use Rattle.noting.proofs.clock_noted.Tie as tie
 
 has-begun-requires : tie.Need-has-begun-requires
 has-begun-requires c κs = search needs

@@ -8,7 +8,7 @@ use borrow.Author.Tests.{le-leb, leb-true, lt-ltb, ltb-true}
 use Rattle.sets.specs.Sets.{size}
 use Rattle.sets.proofs.Tests.{and-left, and-right, and-both}
 use Rattle.floors.specs.declared.Settings.{Settings}
-use Rattle.printing.specs.Holding.{begun, clockNoted, waitOver}
+use Rattle.noting.specs.Entry.{begun, clockNoted, waitOver}
 
 -- ---- when the wait has begun
 

@@ -1,27 +1,24 @@
 -- What every action and every print keeps of the shape of an entry: when the clock goes on and marks are set, when a desk announces it, and
 -- when its sticker is printed. Assumes nothing.
-use mathlib.Core.Path.{_≡_, refl, sym, ap, _∙_, subst}
+use mathlib.Core.Path.{_≡_, refl, sym, subst}
 use mathlib.Core.Bool.{Bool, true, false, not, cond, _&&_, _||_}
 use mathlib.Core.List.{List, [], _∷_}
-use mathlib.Core.Logic.{_⊎_, inl, inr, ⊎-elim}
+use mathlib.Core.Logic.{_⊎_, ⊎-elim}
 use Prim.Native.Nat.{ℕ, _^_, _≤_, _<_, zero-le}
-use native.Mathlib.Nat.{le-trans, le-refl, lt-of-lt-of-le}
-use native.Mathlib.Omega.{arith}
+use native.Mathlib.Nat.{le-trans, lt-of-lt-of-le}
 use lib.Dec.{leb, ltb}
-use lib.ListN.{getD, getD-replicate}
+use lib.ListN.{getD}
 use lib.Pow.{pow-pos}
 use borrow.Author.Tests.{le-leb, leb-true, lt-ltb}
-use Rattle.sets.specs.Sets.{member, insert, size, allBelow}
-use Rattle.sets.proofs.Tests.{clash, decided, or-left, or-right, or-cases, cond-true, cond-false, AllTrue, apart, joined}
+use Rattle.sets.specs.Sets.{member, insert, allBelow}
+use Rattle.sets.proofs.Tests.{clash, decided, cond-true, cond-false, AllTrue, apart, joined}
 use Rattle.sets.proofs.CountLaws.{count-mono}
 use Rattle.sets.proofs.MemberLaws.{all-below, lt-all-below, insert-lt, insert-keeps, insert-cases, member-zero}
 use Rattle.rules.specs.Rules.{everyBelow}
 use Rattle.rules.proofs.DeskLaws.{below-each, each-below}
 use Rattle.floors.specs.declared.Settings.{Settings}
-use Rattle.floors.specs.declared.Floor.{Floor}
-use Rattle.printing.specs.declared.Hold.{Hold}
-use Rattle.printing.specs.Holding.{begun, clockNoted, waitOver, announcersAt, notedAt, isPrinted, newHold, sentBy, entryInShape, entryInShapeAt, notedInShape}
-use Rattle.printing.proofs.EntryLaws.{enough-begun, begun-enough, noted-first, noted-again, noted-none, over-parts, parts-over}
+use Rattle.noting.specs.Entry.{begun, clockNoted, waitOver, sentBy, entryInShape}
+use Rattle.noting.proofs.EntryLaws.{enough-begun, begun-enough, noted-first, noted-again, noted-none, over-parts, parts-over}
 
 -- ---- the four tests of an entry
 
@@ -77,19 +74,6 @@ module _ (k : Settings) (clock : ℕ) (sent : List ℕ) (announcers noted : ℕ)
           ),
         ),
       )
-
--- every entry of a hold
-abbrev pub EntryShapeAt : Hold → ℕ → Type 0
-EntryShapeAt h e = EntryShape (h .floor .settings) (h .floor .clock) (h .floor .sent) (announcersAt h e) (notedAt h e) (isPrinted h e) e
-
-module _ (h : Hold) where
-  pub noted-each : notedInShape h ≡ true → (e : ℕ) → e < 64 → EntryShapeAt h e
-  unfolding notedInShape entryInShapeAt
-  noted-each ok e l = shape-entry (h .floor .settings) (h .floor .clock) (h .floor .sent) (announcersAt h e) (notedAt h e) (isPrinted h e) e (below-each (entryInShapeAt h) 64 ok e l)
-
-  pub each-noted : ((e : ℕ) → e < 64 → EntryShapeAt h e) → notedInShape h ≡ true
-  unfolding notedInShape entryInShapeAt
-  each-noted ok = each-below (entryInShapeAt h) 64 (λ e l. entry-shape (h .floor .settings) (h .floor .clock) (h .floor .sent) (announcersAt h e) (notedAt h e) (isPrinted h e) e (ok e l))
 
 -- ---- one step more
 
@@ -154,15 +138,12 @@ pub printed-shape : (k : Settings) (clock : ℕ) (sent : List ℕ) (announcers n
 printed-shape k clock sent announcers noted was printed e ok why =
     record { inside = ok .inside; marked = ok .marked; past = ok .past; waited = λ p. ⊎-elim (ok .waited) (λ over. over) (why p) }
 
--- nothing is noted of any entry
-pub nothing-noted : (fl : Floor) → notedInShape (newHold fl) ≡ true
-nothing-noted fl = each-noted (newHold fl) (λ e l. rw (getD-replicate {A = ℕ} 64 e 0 0 l) (none e))
-  where
-    none : (e : ℕ) → EntryShape (fl .settings) (fl .clock) (fl .sent) 0 0 (isPrinted (newHold fl) e) e
-    none e =
-        record {
-          inside = pow-pos (cond (ltb e (fl .settings .u)) (fl .settings .n) 0);
-          marked = λ i l has. clash (member 0 i) has (member-zero i);
-          past = zero-le;
-          waited = λ p. clash (member 0 e) p (member-zero e);
-        }
+-- nothing is noted
+pub none-shape : (k : Settings) (clock : ℕ) (sent : List ℕ) (printed : Bool) (e : ℕ) → printed ≡ false → EntryShape k clock sent 0 0 printed e
+none-shape k clock sent printed e none =
+    record {
+      inside = pow-pos (cond (ltb e (k .u)) (k .n) 0);
+      marked = λ i l has. clash (member 0 i) has (member-zero i);
+      past = zero-le;
+      waited = λ p. clash printed p none;
+    }
