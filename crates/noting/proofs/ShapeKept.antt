@@ -1,7 +1,7 @@
 -- What every action and every print keeps of the shape of an entry: when the clock goes on and marks are set, when a desk announces it, and
 -- when its sticker is printed. Assumes nothing.
 use mathlib.Core.Path.{_≡_, refl, sym, subst}
-use mathlib.Core.Bool.{Bool, true, false, not, cond, _&&_, _||_}
+use mathlib.Core.Bool.{Bool, true, false, not, cond, _||_}
 use mathlib.Core.List.{List, [], _∷_}
 use mathlib.Core.Logic.{_⊎_, ⊎-elim}
 use Prim.Native.Nat.{ℕ, _^_, _≤_, _<_, zero-le}

@@ -81,7 +81,7 @@ module _ (fl : Floor) (area : List ℕ) (x : Action) (fit : Fit fl area) where
     pub announces-no-other : (e : ℕ) → e ≢ x .entry .0 → (i : ℕ) → announces e s m i ≡ false
     announces-no-other e other i = does e i ∙ ap (λ (b : Bool). eqb (x .desk .0) i && b) (ne-eqb (x .entry .0) e (λ q. other (sym q))) ∙ and-false (eqb (x .desk .0) i)
 
-  -- where no note is taken, none is announced
+  -- where nothing is to be noted, nothing is announced
   pub announces-none : (eqb (o .answer) 0 && eqb (x .kind) 1) ≡ false → (e i : ℕ) → announces e s m i ≡ false
   announces-none none e i = ⊎-elim (λ t. absurd (never t)) (λ f. f) (decided (announces e s m i))
     where

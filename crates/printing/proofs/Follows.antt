@@ -7,7 +7,7 @@ use mathlib.Core.Logic.{_≢_, _⊎_, inl, inr, ⊎-elim}
 use Prim.Native.Nat.{ℕ, _≤_, _<_}
 use native.Mathlib.Nat.{lt-of-lt-of-le}
 use lib.Dec.{eqb}
-use lib.ListN.{length, getD, set, length-set, length-replicate, getD-replicate}
+use lib.ListN.{length, length-set, length-replicate, getD-replicate}
 use lib.Seq.{getD-set-same, getD-set-other}
 use borrow.Author.Tests.{eqb-true, eqb-false}
 use Rattle.sets.specs.Sets.{member, insert, insertBelow}
@@ -29,7 +29,7 @@ use Rattle.actions.proofs.Calls.{act-next}
 use Rattle.actions.proofs.Openings.{opened-state, opened-fit}
 use Rattle.printing.specs.declared.Hold.{Hold}
 use Rattle.noting.specs.Entry.{begun, clockNoted}
-use Rattle.printing.specs.Holding.{announcersAt, notedAt, begunAt, isPrinted, waitOverAt, newHold, withFloor, announcing, withPrinted, notedInShape, Holding, openedHold, taking, took, mayPrint, printed}
+use Rattle.printing.specs.Holding.{announcersAt, notedAt, begunAt, isPrinted, waitOverAt, withFloor, announcing, withPrinted, notedInShape, Holding, openedHold, took, printed}
 use Rattle.noting.proofs.EntryLaws.{noted-again}
 use Rattle.printing.proofs.HoldLaws.{announced-below, took-acted, printed-either}
 use Rattle.printing.proofs.ActionLaws.{settings-stay, clock-on, marks-stay, announcer-below, mark-set, announces-own, announces-no-other, announces-none}
@@ -43,7 +43,7 @@ module _ (k : rules.Settings) (few : k .n ≤ 16) where
     pub fit : Fit (h .floor) area
     pub shaped : notedInShape h ≡ true
     pub long : (length (h .announcers) ≡ 64) × (length (h .noted) ≡ 64)
-    pub notes : (e : ℕ) → e < 64 → Noting k few e moves (announcersAt h e) (notedAt h e)
+    pub noting : (e : ℕ) → e < 64 → Noting k few e moves (announcersAt h e) (notedAt h e)
 
   -- the settings are those that the floor was opened with
   pub opened-with : (moves : List Move) (h : Hold) (area : List ℕ) → Follows moves h area → settingsOf (h .floor .settings) ≡ k
@@ -67,7 +67,7 @@ module _ (k : rules.Settings) (few : k .n ≤ 16) where
     -- an entry of which nothing is noted
     quiet : (e : ℕ) → e < 64 → ((i : ℕ) → announces e (stateOf fl area) (moveOf x) i ≡ false) → Noting k few e more (announcersAt h e) (notedAt h e)
     quiet e l none =
-        noting-other k few e moves (announcersAt h e) (notedAt h e) (g .notes e l) (moveOf x)
+        noting-other k few e moves (announcersAt h e) (notedAt h e) (g .noting e l) (moveOf x)
         (λ i. subst (λ (t : State). announces e t (moveOf x) i ≡ false) (g .state) (none i))
 
     -- its shape, with the settings that stayed
@@ -80,7 +80,7 @@ module _ (k : rules.Settings) (few : k .n ≤ 16) where
         (later-shape (fl .settings) (fl .clock) (o .floor .clock) (fl .sent) (o .floor .sent) (announcersAt h e) (notedAt h e) (isPrinted h e) e (noted-each h (g .shaped) e l)
         (clock-on fl area x (g .fit)) (λ i b. marks-stay fl area x (g .fit) i e b))
 
-    -- no note is taken
+    -- nothing is noted
     other-follows : (eqb (o .answer) 0 && eqb (x .kind) 1) ≡ false → Follows more (withFloor h (o .floor)) (o .area)
     other-follows none =
         record {
@@ -88,10 +88,10 @@ module _ (k : rules.Settings) (few : k .n ≤ 16) where
           fit = act-next fl area x (g .fit) .1;
           shaped = each-noted (withFloor h (o .floor)) kept;
           long = g .long;
-          notes = λ e l. quiet e l (announces-none fl area x (g .fit) none e);
+          noting = λ e l. quiet e l (announces-none fl area x (g .fit) none e);
         }
 
-    -- the note of an announcement
+    -- an announcement is noted
     module _ (z : o .answer ≡ 0) (one : x .kind ≡ 1) where
       abbrev d : ℕ
       d = x .desk .0
@@ -145,7 +145,7 @@ module _ (k : rules.Settings) (few : k .n ≤ 16) where
       own-noting : Noting k few c more (insert (announcersAt h c) d) clock
       own-noting =
           rw (ap (λ (q : rules.Settings). q .f) (opened-with moves h area g), ap (λ (t : State). t .clock) (g .state))
-          (noting-announced k few c moves (announcersAt h c) (notedAt h c) (g .notes c (entry-below .1)) (moveOf x) d
+          (noting-announced k few c moves (announcersAt h c) (notedAt h c) (g .noting c (entry-below .1)) (moveOf x) d
           (subst (λ (q : rules.Settings). d < q .n) (opened-with moves h area g) (announcer-below fl area x (g .fit) z one .0))
           (λ i. subst (λ (t : State). announces c t (moveOf x) i ≡ eqb d i) (g .state) (announces-own fl area x (g .fit) z one i)))
 
@@ -156,7 +156,7 @@ module _ (k : rules.Settings) (few : k .n ≤ 16) where
             fit = act-next fl area x (g .fit) .1;
             shaped = each-noted h′ (by-entry (λ e a n. EntryShape (o .floor .settings) (o .floor .clock) (o .floor .sent) a n (isPrinted h e) e) own-shape (λ e l other. kept e l));
             long = (length-set (h .announcers) c _ ∙ g .long .0, length-set (h .noted) c _ ∙ g .long .1);
-            notes = by-entry (λ e a n. Noting k few e more a n) own-noting (λ e l other. quiet e l (announces-no-other fl area x (g .fit) z one e other));
+            noting = by-entry (λ e a n. Noting k few e more a n) own-noting (λ e l other. quiet e l (announces-no-other fl area x (g .fit) z one e other));
           }
 
     pub took-follows : Follows more (took h area x .hold) (took h area x .area)
@@ -194,7 +194,7 @@ module _ (k : rules.Settings) (few : k .n ≤ 16) where
             (λ c l. printed-shape (h .floor .settings) (h .floor .clock) (h .floor .sent) (announcersAt h c) (notedAt h c) (isPrinted h c) (isPrinted (withPrinted h e) c) c (noted-each h (g .shaped) c l)
             (λ p. ⊎-elim (λ same. inr (subst (λ (q : ℕ). waitOverAt h q ≡ true) (sym same) over)) inl (insert-cases (h .printed .0) e c (subst (λ (n : ℕ). member n c ≡ true) (insertBelow-low 64 (h .printed .0) e below) p))));
         long = g .long;
-        notes = g .notes;
+        noting = g .noting;
       })
 
 -- ---- an opening
@@ -208,5 +208,5 @@ opened-follows area x opens few =
       fit = opened-fit area x opens;
       shaped = nothing-noted (opened area x .floor);
       long = (length-replicate {A = ℕ} 64 0, length-replicate {A = ℕ} 64 0);
-      notes = λ e l. rw (getD-replicate {A = ℕ} 64 e 0 0 l) (noting-none k few e);
+      noting = λ e l. rw (getD-replicate {A = ℕ} 64 e 0 0 l) (noting-none k few e);
     }

@@ -127,7 +127,7 @@ module _ (h : Hold) (area : List ℕ) (x : Action) where
           took-announced q e =
               ap with-hold e ∙ sym (taken ∙ ap with-hold (cond-true announced (announcing h (t .out .floor) (x .desk .0) (x .entry .0)) (withFloor h (t .out .floor)) (not-false announced z)))
 
--- whatever note is taken, the floor is the library's
+-- whatever is noted, the floor is the library's
 pub taking-floor : (h : Hold) (x : Action) (o : Outcome) → let q = taking h x o in record { answer = q .answer; floor = q .hold .floor; area = q .area } ≡ o
 taking-floor h x o =
     cond-both (λ (q : Hold). let r : Outcome = record { answer = o .answer; floor = q .floor; area = o .area } in r ≡ o) (eqb (o .answer) 0 && eqb (x .kind) 1)

@@ -1,24 +1,17 @@
 -- THE HOLD ON THE PRINTERS: what is promised of it, for every sequence of actions and prints from an opening, refused ones among them, and
 -- for every whole sequence. Assumes nothing.
 use mathlib.Core.Path.{_≡_, refl, sym, ap, _∙_, subst}
-use mathlib.Core.Bool.{Bool, true, false, not, cond, _&&_}
+use mathlib.Core.Bool.{true, false, cond}
 use mathlib.Core.List.{List, [], _∷_, _++_, append-assoc, append-nil}
-use mathlib.Core.Logic.{_≢_, ⊎-elim}
-use Prim.Native.Nat.{ℕ, _+_, _*_, _≤_, _<_}
+use mathlib.Core.Logic.{⊎-elim}
+use Prim.Native.Nat.{ℕ, _+_, _≤_, _<_}
 use native.Mathlib.Nat.{lt-of-lt-of-le}
 use native.Mathlib.Omega.{arith}
-use lib.Dec.{eqb, ltb}
-use borrow.Author.Tests.{ne-eqb, eqb-true, eqb-false}
-use Rattle.sets.specs.Counting.{bit}
-use Rattle.sets.specs.Sets.{member, insert, insertBelow}
-use Rattle.sets.specs.declared.EntrySet.{EntrySet}
-use Rattle.sets.proofs.Tests.{clash, decided, cond-true, cond-false}
-use Rattle.sets.proofs.CountLaws.{bit-le}
-use Rattle.sets.proofs.MemberLaws.{insert-same, insert-other, insertBelow-low}
+use Rattle.sets.proofs.Tests.{decided, cond-true, cond-false}
 use Rattle.rules.specs.Rules as rules
 use Rattle.rules.specs.Rules.{State, Move, withinLimits, answer}
 use Rattle.rules.proofs.Shapes.{limits}
-use Rattle.agreement.specs.Demand.{floorAfter, AnnouncedBy, LaterThanWait, OnEveryGoodList}
+use Rattle.agreement.specs.Demand.{AnnouncedBy, LaterThanWait, OnEveryGoodList}
 use Rattle.agreement.proofs.Demand3.{demand-3}
 use Rattle.records.specs.declared.Action.{Action}
 use Rattle.floors.specs.Bridge.{settingsOf, stateOf}
@@ -29,13 +22,13 @@ use Rattle.actions.proofs.Calls.{fit-shape, act-answer}
 use Rattle.actions.proofs.Openings as openings
 use Rattle.printing.specs.declared.Hold.{Hold}
 use Rattle.noting.specs.Entry.{begun}
-use Rattle.printing.specs.Holding.{announcersAt, notedAt, begunAt, waitOverAt, isPrinted, withPrinted, notedInShape, Holding, refusing, openedHold, took, mayPrint, printed}
-use Rattle.printing.specs.Steps.{Step, action, print, stepped, leftBy, movesOf, isPrintOf, timesPrinted}
+use Rattle.printing.specs.Holding.{announcersAt, notedAt, begunAt, waitOverAt, isPrinted, notedInShape, Holding, openedHold, took, mayPrint, printed}
+use Rattle.printing.specs.Steps.{Step, action, print, stepped, leftBy, movesOf}
 use Rattle.noting.specs.FirstClock.{FirstBy}
 use Rattle.printing.specs.Promise.{WaitIsOver, Promised}
 use Rattle.noting.proofs.EntryLaws.{over-parts, parts-over}
-use Rattle.printing.proofs.HoldLaws.{took-acted, took-printed, may-5, may-17, may-18, may-0, may-parts, print-answer, printed-either, printed-noted}
-use Rattle.noting.proofs.Noting.{Noting, announced-begun}
+use Rattle.printing.proofs.HoldLaws.{took-acted, may-5, may-17, may-18, may-0, may-parts, print-answer, printed-noted}
+use Rattle.noting.proofs.Noting.{announced-begun}
 use Rattle.printing.proofs.Follows.{Follows, opened-with, took-follows, took-noted, printed-follows, opened-follows}
 
 -- ---- what follows the rules has the promise
@@ -57,10 +50,10 @@ module _ (k : rules.Settings) (within : withinLimits k ≡ true) where
     begins : (e : ℕ) → e < k .u → (T : ℕ) → AnnouncedBy k e moves T → begunAt h e ≡ true
     begins e low T announced =
         subst (λ (r : rules.Settings). begun (r .f) (announcersAt h e) ≡ true) (sym same)
-        (announced-begun k few e moves (announcersAt h e) (notedAt h e) (g .notes e (one-of-64 e low)) T announced)
+        (announced-begun k few e moves (announcersAt h e) (notedAt h e) (g .noting e (one-of-64 e low)) T announced)
 
     noted : (e : ℕ) → e < k .u → begunAt h e ≡ true → FirstBy k e moves (notedAt h e)
-    noted e low b = g .notes e (one-of-64 e low) .first (subst (λ (r : rules.Settings). begun (r .f) (announcersAt h e) ≡ true) same b)
+    noted e low b = g .noting e (one-of-64 e low) .first (subst (λ (r : rules.Settings). begun (r .f) (announcersAt h e) ≡ true) same b)
 
     -- the wait is over for the hold where it is over for the rules
     over-rules : (e : ℕ) → e < k .u → waitOverAt h e ≡ true → WaitIsOver k e moves

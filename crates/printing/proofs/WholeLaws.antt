@@ -18,7 +18,7 @@ use Rattle.actions.specs.Actions.{moveOf, opened}
 use Rattle.actions.proofs.Calls.{kind-none, malformed}
 use Rattle.actions.proofs.Openings.{opened-none}
 use Rattle.runs.specs.Runs.{wholeChecks}
-use Rattle.runs.proofs.CallLaws.{tail, number-15, number-16, number-0, records-there}
+use Rattle.runs.proofs.CallLaws.{tail, number-0, records-there}
 use Rattle.printing.specs.declared.Hold.{Hold}
 use Rattle.printing.specs.Holding.{newHold, Holding, refusing, openedHold, took}
 use Rattle.printing.specs.Whole.{Taken, takenFrom, takenAfter, wholeTaken}

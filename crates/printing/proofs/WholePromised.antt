@@ -103,7 +103,7 @@ module _ (k : rules.Settings) (few : k .n ≤ 16) (bytes : List ℕ) where
       told : t ≡ toldAt (h .floor) area (moveAt bytes j)
       told = sym (act-fits (h .floor) area x (g .fit)) ∙ ap (toldAt (h .floor) area) (sym (move-at bytes j))
 
-      -- the floor of a hold is the library's, whether a note is taken or not
+      -- the floor of a hold is the library's, whether anything is noted or not
       left : record { answer = o .answer; floor = o .hold .floor; area = o .area } ≡ t .out
       left =
           ap (λ (q : Holding). let r : Outcome = record { answer = q .answer; floor = q .hold .floor; area = q .area } in r) (took-acted h area x (g .fit .exact) true (sym (g .shaped)) refl)

@@ -4,7 +4,7 @@ use mathlib.Core.List.{List, [], _∷_, _++_}
 use Prim.Native.Nat.{ℕ}
 use lib.Dec.{eqb, ltb}
 use lib.ListN.{getD, set, replicate}
-use Rattle.sets.specs.Sets.{member, insertBelow, size}
+use Rattle.sets.specs.Sets.{member, insertBelow}
 use Rattle.rules.specs.Rules.{Check, _when_, firstOf, everyBelow}
 use Rattle.records.specs.declared.Action.{Action}
 use Rattle.floors.specs.declared.Floor.{Floor}
@@ -81,7 +81,7 @@ openedHold area x =
     let o = opened area x in
     record { answer = o .answer; hold = newHold (o .floor); area = o .area }
 
--- what the library made of an action, and the note taken of it: every record of kind 1 that it answers with 0 is an announcement carried out
+-- what the library made of an action, and what is noted of it: every record of kind 1 that it answers with 0 is an announcement carried out
 abbrev pub taking : Hold → Action → Outcome → Holding
 taking h x o =
     record {
@@ -90,7 +90,7 @@ taking h x o =
       area = o .area;
     }
 
--- ONE ACTION: 15, and 1 for what stands beside the floor; then the library's numbers, its own 1 among them, "pass through as they are"
+-- ONE ACTION: 15, and 1 for what stands beside the floor; then the library's own numbers as they are, its 1 among them
 unfoldable pub took : Hold → List ℕ → Action → Holding
 took h area x =
     let number = firstOf (wrongArea area ∷ notedOutOfShape h ∷ []) in

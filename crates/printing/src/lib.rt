@@ -15,9 +15,7 @@ use sets::EntryNo;
 use sets::EntrySet;
 use shapes::floor_in_shape;
 ghost use mathlib.Core.Path.{_≡_};
-ghost use mathlib.Core.Bool.{cond, not, _&&_};
 ghost use Prim.Native.Nat.{_<_};
-ghost use lib.ListN.{length};
 ghost use Rattle.floors.specs.Bridge.{noFloor};
 ghost use Rattle.printing.specs.Holding.{
   newHold,
@@ -71,7 +69,7 @@ impl Hold {
         hold
     }
 
-    // Takes the note of an announcement that was carried out and left this floor.
+    // Notes an announcement that was carried out and left this floor.
     fn announced(self, floor: Floor, desk: DeskNo, entry: EntryNo) -> Hold
         requires { ⌜ entry .0 < 64 ⌝ }
         ensures { λ r. ⌜ r ≡ announcing self floor (desk .0) (entry .0) ⌝ }

@@ -38,8 +38,11 @@ Added before w = sizes (w .out .floor .received) ≡ sizes before + w .total
 same-added : (fl : Floor) (area : List ℕ) → Fit fl area → (most : ℕ) (moves : List Move) (w : Went) → Same 0 0 w (run most (stateOf fl area) moves) → Added (fl .received) w
 same-added fl area fit most moves w same =
     let r = run most (stateOf fl area) moves in
-    omega (arith, same .totals,
-    grown-sizes fl (w .out .floor) area (w .out .area) (fit .sized) (same .fit .sized) (r .state) (same .state) (r .total) (run-sizes most (stateOf fl area) moves (fit .shaped) (sized-whole fl area (fit .sized))))
+    omega (
+      arith,
+      same .totals,
+      grown-sizes fl (w .out .floor) area (w .out .area) (fit .sized) (same .fit .sized) (r .state) (same .state) (r .total) (run-sizes most (stateOf fl area) moves (fit .shaped) (sized-whole fl area (fit .sized))),
+    )
 
 went-added : (fl : Floor) → Sized fl → (area bytes : List ℕ) (most : ℕ) → Added (fl .received) (went fl area bytes most)
 went-added fl sized area bytes most =

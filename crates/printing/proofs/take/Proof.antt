@@ -4,7 +4,7 @@ use Rattle.printing.proofs.HoldLaws.{took-15, took-1, took-other, entry
 use Rattle.printing.proofs.take.Statement.{statement}
 use Rattle.printing.proofs.take.Tie as tie
 
--- the places before the note is taken, from the last on
+-- the places before anything is noted, from the last on
 abbrev after-act : tie.After-struct-known2 → tie.After-act
 after-act c = c .before .before .before .before .before
 

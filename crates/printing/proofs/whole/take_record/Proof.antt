@@ -2,7 +2,6 @@
 use borrow.Author.Needs.{needs}
 use mathlib.Core.Path.{ap, _∙_}
 use native.Mathlib.Omega.{arith}
-use Rattle.records.specs.declared.Action.{Action}
 use Rattle.runs.proofs.RunLaws.{record-good, record-bad}
 use Rattle.printing.specs.Holding.{took}
 use Rattle.printing.proofs.HoldLaws.{took-unknown}
