@@ -1,9 +1,9 @@
 -- An entry of a hold: when its wait has begun, the clock that is noted, and when the wait is over. Assumes nothing.
-use mathlib.Core.Path.{_≡_}
+use mathlib.Core.Path.{_≡_, sym, ap, _∙_}
 use mathlib.Core.Bool.{Bool, true, false, not, _&&_}
 use Prim.Native.Nat.{ℕ, _+_, _*_, _≤_, _<_}
 use native.Mathlib.Numerals.{add-one}
-use lib.Dec.{ltb}
+use lib.Dec.{leb, ltb}
 use borrow.Author.Tests.{le-leb, leb-true, lt-ltb, ltb-true}
 use Rattle.sets.specs.Sets.{size}
 use Rattle.sets.proofs.Tests.{and-left, and-right, and-both}
@@ -16,7 +16,7 @@ module _ (f announcers : ℕ) where
   -- many is what the call for the size answered
   pub begun-by : (many : ℕ) → many ≡ size 16 announcers → ltb f many ≡ begun f announcers
   unfolding begun
-  begun-by many e = rw (e, add-one f)
+  begun-by many e = ap (ltb f) e ∙ ap (λ (n : ℕ). leb n (size 16 announcers)) (sym (add-one f))
 
   pub enough-begun : f + 1 ≤ size 16 announcers → begun f announcers ≡ true
   unfolding begun
