@@ -1,7 +1,8 @@
-// Floors handed in, in shape and out of shape: what the library answers. Each line of the output is a case and a
-// number; the file `stdout` has what is asked for.
+// Floors handed in, in shape and out of shape: what the library answers; and holds, which the printers' product
+// answers. Each line of the output is a case and a number; the file `stdout` has what is asked for.
 pub mod answers;
 pub mod given;
+pub mod holds;
 pub mod lamp;
 pub mod report;
 pub mod running;
@@ -11,6 +12,13 @@ use crate::answers::action_numbers;
 use crate::answers::first_of_equals;
 use crate::answers::openings;
 use crate::given::shaped;
+use crate::holds::announcer_limits;
+use crate::holds::before_the_entry;
+use crate::holds::noted_limits;
+use crate::holds::printed_limits;
+use crate::holds::printed_once;
+use crate::holds::sticker_numbers;
+use crate::holds::taken_numbers;
 use crate::lamp::new_flags;
 use crate::lamp::received_twice;
 use crate::lamp::totals;
@@ -48,4 +56,11 @@ fn main() {
     new_flags();
     received_twice();
     totals();
+    sticker_numbers();
+    printed_once();
+    before_the_entry();
+    announcer_limits();
+    noted_limits();
+    printed_limits();
+    taken_numbers();
 }
