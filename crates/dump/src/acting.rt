@@ -1,8 +1,8 @@
 // The call for one action, tried on each record after the opening, and what it gives: the record's number, the answer
 // and the new flag. A refused action changes nothing, and the next is tried on the same floor.
-use crate::field;
 use actions::Acted;
 use floors::Floor;
+use lines::field;
 use lines::word;
 ghost use Prim.Native.Nat.{_+_, _*_, _≤_};
 ghost use lib.ListN.{length};

@@ -4,20 +4,11 @@
 pub mod acting;
 
 use crate::acting::acts;
-use lines::number;
+use lines::field;
 use lines::word;
 use runs::Ran;
 ghost use Prim.Native.Nat.{_+_, _*_, _≤_};
 ghost use lib.ListN.{length};
-
-// A number with a word before it.
-pub fn field(out: &mut [u8], at: usize, before: &[u8], n: u64) -> usize
-    requires { ⌜ at + (length (now before) + 20) ≤ length (now out) ⌝ }
-    ensures { λ r. ⌜ r ≤ at + (length (now (before .entry)) + 20) ⌝ }
-{
-    let next = word(out, at, before);
-    number(out, next, n)
-}
 
 fn total_line(out: &mut [u8], at: usize, total: usize) -> usize
     requires { ⌜ at + 25 ≤ length (now out) ⌝ }
