@@ -5,8 +5,8 @@ use Prim.Native.Nat.{ℕ, _≤_, _<_}
 use lib.ListN.{length}
 use Rattle.floors.specs.Bridge.{noFloor}
 use Rattle.lines.proofs.InputLaws.{input-long, input-short}
-use Rattle.printing.specs.declared.Hold.{Hold}
-use Rattle.printing.specs.Holding.{newHold, refusing}
+use Rattle.holds.specs.declared.Hold.{Hold}
+use Rattle.holds.specs.Holding.{newHold, refusing}
 use Rattle.printing.specs.Whole.{Taken, wholeTaken}
 use Rattle.hold.specs.Input.{inputTaken}
 

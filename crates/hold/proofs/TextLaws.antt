@@ -12,8 +12,8 @@ use Rattle.lines.specs.Lines.{Puts, fieldText, lineEnd}
 use Rattle.lines.proofs.PutLaws.{puts-nothing, puts-then, puts-within, puts-next, puts-last}
 use Rattle.noting.specs.Entry.{begun, waitOver}
 use Rattle.noting.proofs.EntryLaws.{over-by}
-use Rattle.printing.specs.declared.Hold.{Hold}
-use Rattle.printing.specs.Holding.{notedAt, begunAt, mayPrint}
+use Rattle.holds.specs.declared.Hold.{Hold}
+use Rattle.holds.specs.Holding.{notedAt, begunAt, mayPrint}
 use Rattle.hold.specs.Text.{
   entryWord,
   notedWord,

@@ -3,7 +3,7 @@ use mathlib.Core.List.{List}
 use Prim.Native.Nat.{ℕ}
 use Rattle.floors.specs.Bridge.{noFloor}
 use Rattle.lines.specs.Input.{ofInput}
-use Rattle.printing.specs.Holding.{newHold, refusing}
+use Rattle.holds.specs.Holding.{newHold, refusing}
 use Rattle.printing.specs.Whole.{Taken, wholeTaken}
 
 -- too long an input is refused as `floor` refuses it, with 16

@@ -5,8 +5,8 @@ use Prim.Native.Nat.{ℕ, zero, suc, _+_, _*_}
 use lib.Dec.{eqb}
 use Rattle.floors.specs.declared.Settings.{Settings}
 use Rattle.lines.specs.Lines.{fieldText, lineEnd, reportText}
-use Rattle.printing.specs.declared.Hold.{Hold}
-use Rattle.printing.specs.Holding.{notedAt, begunAt, mayPrint}
+use Rattle.holds.specs.declared.Hold.{Hold}
+use Rattle.holds.specs.Holding.{notedAt, begunAt, mayPrint}
 
 -- The words, as bytes of ASCII.
 -- "entry "

@@ -1,7 +1,7 @@
 // The input of `hold`.
-use printing::Hold;
-use printing::whole::Taken;
-use printing::whole::whole;
+use holds::Hold;
+use printing::Taken;
+use printing::whole;
 ghost use mathlib.Core.Path.{_≡_};
 ghost use Rattle.hold.specs.Input.{inputTaken};
 

@@ -1,13 +1,13 @@
 // What `hold` prints. Each call puts its text into a lent place from `at` on and answers where it ends, as those of
 // `lines` do.
 use floors::Settings;
+use holds::Hold;
+use holds::may_print;
 use lines::either;
 use lines::field;
 use lines::two_numbers;
 use lines::word;
 use noting::has_begun;
-use printing::Hold;
-use printing::may_print;
 use sets::DeskSet;
 use sets::EntryNo;
 ghost use mathlib.Core.Path.{_≡_};

@@ -26,7 +26,7 @@ use Rattle.moves.specs.Moves.{Outcome}
 use Rattle.moves.proofs.StepLaws.{Fit}
 use Rattle.actions.specs.Actions.{moveOf, acted}
 use Rattle.actions.proofs.Calls.{announce-kind, act-done, act-answer, act-next, act-announces}
-use Rattle.printing.proofs.HoldLaws.{announced-below}
+use Rattle.holds.proofs.HoldLaws.{announced-below}
 
 module _ (fl : Floor) (area : List ℕ) (x : Action) (fit : Fit fl area) where
   abbrev s : State

@@ -27,15 +27,15 @@ use Rattle.moves.proofs.StepLaws.{Fit}
 use Rattle.actions.specs.Actions.{moveOf, settingsIn, acted, opened}
 use Rattle.actions.proofs.Calls.{act-next}
 use Rattle.actions.proofs.Openings.{opened-state, opened-fit}
-use Rattle.printing.specs.declared.Hold.{Hold}
+use Rattle.holds.specs.declared.Hold.{Hold}
 use Rattle.noting.specs.Entry.{begun, clockNoted}
-use Rattle.printing.specs.Holding.{announcersAt, notedAt, begunAt, isPrinted, waitOverAt, withFloor, announcing, withPrinted, notedInShape, Holding, openedHold, took, printed}
+use Rattle.holds.specs.Holding.{announcersAt, notedAt, begunAt, isPrinted, waitOverAt, withFloor, announcing, withPrinted, notedInShape, Holding, openedHold, took, printed}
 use Rattle.noting.proofs.EntryLaws.{noted-again}
-use Rattle.printing.proofs.HoldLaws.{announced-below, took-acted, printed-either}
+use Rattle.holds.proofs.HoldLaws.{announced-below, took-acted, printed-either}
 use Rattle.printing.proofs.ActionLaws.{settings-stay, clock-on, marks-stay, announcer-below, mark-set, announces-own, announces-no-other, announces-none}
 use Rattle.noting.proofs.Noting.{one-more, Noting, noting-none, noting-other, noting-announced}
 use Rattle.noting.proofs.ShapeKept.{EntryShape, more-begun, later-shape, announced-shape, printed-shape}
-use Rattle.printing.proofs.ShapeLaws.{noted-each, each-noted, nothing-noted}
+use Rattle.holds.proofs.ShapeLaws.{noted-each, each-noted, nothing-noted}
 
 module _ (k : rules.Settings) (few : k .n ≤ 16) where
   pub record Follows (moves : List Move) (h : Hold) (area : List ℕ) : Type 0 where

@@ -19,8 +19,8 @@ use Rattle.actions.proofs.Calls.{kind-none, malformed}
 use Rattle.actions.proofs.Openings.{opened-none}
 use Rattle.runs.specs.Runs.{wholeChecks}
 use Rattle.runs.proofs.CallLaws.{tail, number-0, records-there}
-use Rattle.printing.specs.declared.Hold.{Hold}
-use Rattle.printing.specs.Holding.{newHold, Holding, refusing, openedHold, took}
+use Rattle.holds.specs.declared.Hold.{Hold}
+use Rattle.holds.specs.Holding.{newHold, Holding, refusing, openedHold, took}
 use Rattle.printing.specs.Whole.{Taken, takenFrom, takenAfter, wholeTaken}
 
 -- a kind that no floor knows asks for no action

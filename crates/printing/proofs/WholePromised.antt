@@ -26,11 +26,11 @@ use Rattle.actions.proofs.Openings as openings
 use Rattle.runs.specs.Runs.{moveAt, movesFrom, Went, wentFrom, stopped, wholeChecks, wholeWent}
 use Rattle.runs.proofs.CallLaws.{number-15, number-16, whole-15, whole-16, whole-stops, whole-runs}
 use Rattle.runs.proofs.RunLaws.{move-at, moves-none, moves-next, went-none, went-next, went-stop}
-use Rattle.printing.specs.declared.Hold.{Hold}
-use Rattle.printing.specs.Holding.{newHold, Holding, refusing, openedHold, took}
+use Rattle.holds.specs.declared.Hold.{Hold}
+use Rattle.holds.specs.Holding.{newHold, Holding, refusing, openedHold, took}
 use Rattle.printing.specs.Whole.{Taken, takenFrom, wholeTaken}
 use Rattle.printing.specs.Promise.{Promised}
-use Rattle.printing.proofs.HoldLaws.{took-acted, taking-floor, took-still}
+use Rattle.holds.proofs.HoldLaws.{took-acted, taking-floor, took-still}
 use Rattle.printing.proofs.WholeLaws.{taken-none, taken-next, taken-stop, taken-refused, taken-unopened, taken-opened, taken-either}
 use Rattle.printing.proofs.Follows.{Follows, opened-with, took-follows, opened-follows}
 use Rattle.printing.proofs.Promised.{promised}

@@ -10,8 +10,8 @@ use Rattle.records.specs.declared.Action.{Action}
 use Rattle.floors.specs.Bridge.{stateOf}
 use Rattle.actions.specs.Actions.{moveOf}
 use Rattle.noting.specs.FirstClock.{FirstBy}
-use Rattle.printing.specs.declared.Hold.{Hold}
-use Rattle.printing.specs.Holding.{notedAt, begunAt, isPrinted, took, mayPrint, printed}
+use Rattle.holds.specs.declared.Hold.{Hold}
+use Rattle.holds.specs.Holding.{notedAt, begunAt, isPrinted, took, mayPrint, printed}
 
 -- by some clock they have, and the state is later than that by more than the wait
 abbrev pub WaitIsOver : Settings → ℕ → List Move → Type 0

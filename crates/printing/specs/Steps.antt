@@ -7,8 +7,8 @@ use Rattle.sets.specs.Counting.{bit}
 use Rattle.rules.specs.Rules.{Move}
 use Rattle.records.specs.declared.Action.{Action}
 use Rattle.actions.specs.Actions.{moveOf}
-use Rattle.printing.specs.declared.Hold.{Hold}
-use Rattle.printing.specs.Holding.{Holding, took, printed}
+use Rattle.holds.specs.declared.Hold.{Hold}
+use Rattle.holds.specs.Holding.{Holding, took, printed}
 
 pub data Step : Type 0 where
   action : Action → Step

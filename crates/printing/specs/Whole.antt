@@ -8,8 +8,8 @@ use Rattle.rules.specs.Rules.{firstOf}
 use Rattle.records.specs.Records.{actionOf, recordAt}
 use Rattle.floors.specs.Bridge.{noFloor}
 use Rattle.runs.specs.Runs.{wholeChecks}
-use Rattle.printing.specs.declared.Hold.{Hold}
-use Rattle.printing.specs.Holding.{Holding, newHold, refusing, openedHold, took}
+use Rattle.holds.specs.declared.Hold.{Hold}
+use Rattle.holds.specs.Holding.{Holding, newHold, refusing, openedHold, took}
 
 -- how many records were carried out, and what is left
 pub record Taken : Type 0 where

@@ -8,8 +8,8 @@ pub mod tries;
 use crate::noted::all_noted;
 use crate::taking::take_each;
 use crate::texts::open_line;
-use printing::Hold;
-use printing::open;
+use holds::Hold;
+use holds::open;
 ghost use Prim.Native.Nat.{_*_, _≤_};
 
 // How many records a sequence of this length has: none if it is too long, or its last is cut short.

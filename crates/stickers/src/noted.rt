@@ -1,6 +1,6 @@
 // What is noted of the entries that were announced.
 use crate::texts::noted_line;
-use printing::Hold;
+use holds::Hold;
 use sets::EntryNo;
 ghost use Prim.Native.Nat.{_+_, _≤_, _<_};
 ghost use lib.ListN.{length};

@@ -1,9 +1,9 @@
 // The records after the opening, taken one after another: a refusal does not end it.
 use crate::texts::take_line;
 use crate::tries::try_after;
-use printing::Held;
-use printing::Hold;
-use printing::take;
+use holds::Held;
+use holds::Hold;
+use holds::take;
 use sets::EntryNo;
 ghost use mathlib.Core.Path.{_≡_};
 ghost use Prim.Native.Nat.{_*_, _≤_};

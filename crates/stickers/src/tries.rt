@@ -1,8 +1,8 @@
 // The stickers that are tried after a record, each with its line.
 use crate::texts::print_line;
-use printing::Hold;
-use printing::may_print;
-use printing::print;
+use holds::Hold;
+use holds::may_print;
+use holds::print;
 use sets::EntryNo;
 ghost use Prim.Native.Nat.{_+_, _≤_, _<_};
 ghost use lib.ListN.{length};

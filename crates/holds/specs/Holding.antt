@@ -1,0 +1,117 @@
+-- T-02, 'Hold the printer': the hold, and its calls. Assumes nothing.
+use mathlib.Core.Bool.{Bool, not, cond, _&&_}
+use mathlib.Core.List.{List, [], _∷_, _++_}
+use Prim.Native.Nat.{ℕ}
+use lib.Dec.{eqb, ltb}
+use lib.ListN.{getD, set, replicate}
+use Rattle.sets.specs.Sets.{member, insertBelow}
+use Rattle.rules.specs.Rules.{Check, _when_, firstOf, everyBelow}
+use Rattle.records.specs.declared.Action.{Action}
+use Rattle.floors.specs.declared.Floor.{Floor}
+use Rattle.moves.specs.Moves.{Outcome}
+use Rattle.actions.specs.Actions.{wrongArea, callChecks, acted, opened}
+use Rattle.noting.specs.Entry.{begun, clockNoted, waitOver, entryInShape}
+use Rattle.holds.specs.declared.Hold.{Hold}
+
+-- ---- a hold: the floor, and beside it for each entry its announcers, the noted clock, and whether its sticker was printed
+
+abbrev pub announcersAt : Hold → ℕ → ℕ
+announcersAt h e = getD (h .announcers) e 0
+
+-- 0 where none is noted, which is a real clock too: `begun` tells which
+abbrev pub notedAt : Hold → ℕ → ℕ
+notedAt h e = getD (h .noted) e 0
+
+abbrev pub begunAt : Hold → ℕ → Bool
+begunAt h e = begun (h .floor .settings .f) (announcersAt h e)
+
+abbrev pub waitOverAt : Hold → ℕ → Bool
+waitOverAt h e = waitOver (h .floor .settings) (h .floor .clock) (announcersAt h e) (notedAt h e)
+
+abbrev pub isPrinted : Hold → ℕ → Bool
+isPrinted h e = member (h .printed .0) e
+
+-- nothing is noted
+abbrev pub newHold : Floor → Hold
+newHold fl = record { floor = fl; announcers = replicate 64 0; noted = replicate 64 0; printed = record { 0 = 0 } }
+
+abbrev pub withFloor : Hold → Floor → Hold
+withFloor h fl = record { floor = fl; announcers = h .announcers; noted = h .noted; printed = h .printed }
+
+-- desk i has carried out an announcement of entry e, which left the floor fl
+abbrev pub announcing : Hold → Floor → ℕ → ℕ → Hold
+announcing h fl i e =
+    let after = insertBelow 16 (announcersAt h e) i in
+    record {
+      floor = fl;
+      announcers = set (h .announcers) e after;
+      noted = set (h .noted) e (clockNoted (h .floor .settings .f) (announcersAt h e) after (h .floor .clock) (notedAt h e));
+      printed = h .printed;
+    }
+
+abbrev pub withPrinted : Hold → ℕ → Hold
+withPrinted h e = record { floor = h .floor; announcers = h .announcers; noted = h .noted; printed = record { 0 = insertBelow 64 (h .printed .0) e } }
+
+-- ---- in shape: what every action and every print keeps
+
+unfoldable pub entryInShapeAt : Hold → ℕ → Bool
+entryInShapeAt h e = entryInShape (h .floor .settings) (h .floor .clock) (h .floor .sent) (announcersAt h e) (notedAt h e) (isPrinted h e) e
+
+-- the part beside the floor, which has its own shape
+unfoldable pub notedInShape : Hold → Bool
+notedInShape h = everyBelow (entryInShapeAt h) 64
+
+abbrev pub notedOutOfShape : Hold → Check
+notedOutOfShape h = 1 when not (notedInShape h)
+
+-- ---- the calls
+
+pub record Holding : Type 0 where
+  pub answer : ℕ
+  pub hold : Hold
+  pub area : List ℕ
+
+-- "A refused print changes neither the floor nor what is noted", and no more does a refused action
+abbrev pub refusing : ℕ → Hold → List ℕ → Holding
+refusing number h area = record { answer = number; hold = h; area = area }
+
+-- AN OPENING: the library's, and nothing is noted
+unfoldable pub openedHold : List ℕ → Action → Holding
+openedHold area x =
+    let o = opened area x in
+    record { answer = o .answer; hold = newHold (o .floor); area = o .area }
+
+-- what the library made of an action, and what is noted of it: every record of kind 1 that it answers with 0 is an announcement carried out
+abbrev pub taking : Hold → Action → Outcome → Holding
+taking h x o =
+    record {
+      answer = o .answer;
+      hold = cond (eqb (o .answer) 0 && eqb (x .kind) 1) (announcing h (o .floor) (x .desk .0) (x .entry .0)) (withFloor h (o .floor));
+      area = o .area;
+    }
+
+-- ONE ACTION: 15, and 1 for what stands beside the floor; then the library's own numbers as they are, its 1 among them
+unfoldable pub took : Hold → List ℕ → Action → Holding
+took h area x =
+    let number = firstOf (wrongArea area ∷ notedOutOfShape h ∷ []) in
+    cond (eqb number 0) (taking h x (acted (h .floor) area x .out)) (refusing number h area)
+
+-- "Refusals: 17 wait not over or not begun, 18 already printed, checked in this order after 5"
+unfoldable pub printChecks : Hold → List ℕ → ℕ → List Check
+printChecks h area e =
+    callChecks (h .floor) area
+    ++ notedOutOfShape h
+    ∷ 5 when not (ltb e (h .floor .settings .u))
+    ∷ 17 when not (waitOverAt h e)
+    ∷ 18 when isPrinted h e
+    ∷ []
+
+-- WHETHER A STICKER MAY BE PRINTED: 0, or the number with which the print is refused
+unfoldable pub mayPrint : Hold → List ℕ → ℕ → ℕ
+mayPrint h area e = firstOf (printChecks h area e)
+
+-- A PRINT
+unfoldable pub printed : Hold → List ℕ → ℕ → Holding
+printed h area e =
+    let number = mayPrint h area e in
+    cond (eqb number 0) (record { answer = 0; hold = withPrinted h e; area = area }) (refusing number h area)
