@@ -4,7 +4,7 @@ use mathlib.Core.List.{List, [], _∷_, _++_}
 use Prim.Native.Nat.{ℕ, zero, suc, _+_, _*_}
 use lib.Dec.{eqb}
 use Rattle.floors.specs.declared.Settings.{Settings}
-use Rattle.lines.specs.Lines.{fieldText, lineEnd, reportText}
+use Rattle.lines.specs.Lines.{fieldText, lineEnd, headingText}
 use Rattle.holds.specs.declared.Hold.{Hold}
 use Rattle.holds.specs.Holding.{notedAt, begunAt, mayPrint}
 
@@ -47,6 +47,6 @@ unfoldable pub entriesNoted : ℕ → Hold → List ℕ → List ℕ
 entriesNoted zero h area = []
 entriesNoted (suc k) h area = entriesNoted k h area ++ entryText h area k
 
--- ALL THAT `hold` PRINTS: the first two lines are those of `floor`
+-- ALL THAT `hold` PRINTS: it begins as `floor` does
 unfoldable pub holdText : ℕ → ℕ → Hold → List ℕ → List ℕ
-holdText count answer h area = reportText count answer (h .floor) (entriesNoted 64 h area)
+holdText count answer h area = headingText count answer (h .floor) ++ cond (eqb (h .floor .settings .n) 0) [] (entriesNoted 64 h area)

@@ -5,7 +5,7 @@ use holds::Hold;
 use holds::may_print;
 use lines::either;
 use lines::field;
-use lines::two_numbers;
+use lines::heading;
 use lines::word;
 use noting::has_begun;
 use sets::DeskSet;
@@ -70,17 +70,9 @@ pub fn outcome(out: &mut [u8], count: usize, answer: u8, hold: Hold, area: &[u64
     ensures { λ r. ⌜ Puts 5613 (now (out .entry)) 0 (holdText count answer hold (now (area .entry))) (now (out .exit)) r ⌝ }
 {
     let floor = hold.floor;
-    let ran = two_numbers(out, 0, b"ran ", count as u64, b" answer ", answer as u64);
+    let next = heading(out, count, answer, floor);
     if floor.settings.n == 0 {
-        return ran;
+        return next;
     }
-    let clock = two_numbers(
-        out,
-        ran,
-        b"clock ",
-        floor.clock as u64,
-        b" pending ",
-        floor.waiting as u64,
-    );
-    entries(out, clock, hold, area)
+    entries(out, next, hold, area)
 }

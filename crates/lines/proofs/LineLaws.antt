@@ -16,10 +16,6 @@ use Rattle.lines.specs.Lines.{
   fieldText,
   space,
   lineEnd,
-  ranWord,
-  answerWord,
-  clockWord,
-  pendingWord,
   deskWord,
   faultyWord,
   goodWord,
@@ -29,7 +25,6 @@ use Rattle.lines.specs.Lines.{
   twoNumbers,
   deskLine,
   desksBelow,
-  reportText,
 }
 use Rattle.lines.proofs.PutLaws.{puts-then, puts-within, puts-next, puts-last}
 
@@ -75,19 +70,11 @@ module _ (fl : Floor) (j : ℕ) {at end : ℕ} {before after : List ℕ} where
       → Puts 22704 before at (desksBelow (min (fl .settings .n) 16) fl) after end
   puts-desks {count} e m h g a = puts-within (rw e at (puts-last 1419 (λ k. desksBelow k fl) j count h g a)) (omega arith)
 
--- what is below the line of the clock takes at most w bytes
-module _ (w count answer : ℕ) (fl : Floor) (rest : List ℕ) {end : ℕ} {before after : List ℕ} where
-  pub puts-no-floor : fl .settings .n ≡ 0 → Puts 53 before 0 (twoNumbers ranWord count answerWord answer) after end
-      → Puts (109 + w) before 0 (reportText count answer fl rest) after end
-  unfolding reportText
-  puts-no-floor h a =
-      rw (cond-true (eqb (fl .settings .n) 0) [] (twoNumbers clockWord (fl .clock) pendingWord (fl .waiting) ++ rest) (eq-eqb _ 0 h), append-nil)
-      (puts-within a (omega arith))
+-- a text, and after it another where there is a floor
+module _ (p q n : ℕ) (s t : List ℕ) {at end : ℕ} {before after : List ℕ} where
+  pub puts-no-floor : n ≡ 0 → Puts p before at s after end → Puts (p + q) before at (s ++ cond (eqb n 0) [] t) after end
+  puts-no-floor h a = rw (cond-true (eqb n 0) [] t (eq-eqb n 0 h), append-nil) (puts-within a (omega arith))
 
-  pub puts-floor : {x y : ℕ} {one two : List ℕ} → (fl .settings .n ≡ 0 → ⊥) → Puts 53 before 0 (twoNumbers ranWord count answerWord answer) one x
-      → Puts 56 one x (twoNumbers clockWord (fl .clock) pendingWord (fl .waiting)) two y → Puts w two y rest after end
-      → Puts (109 + w) before 0 (reportText count answer fl rest) after end
-  unfolding reportText
-  puts-floor h a b d =
-      rw (cond-false (eqb (fl .settings .n) 0) [] (twoNumbers clockWord (fl .clock) pendingWord (fl .waiting) ++ rest) (ne-eqb _ 0 h))
-      (puts-within (puts-then a (puts-then b d)) (omega arith))
+  pub puts-floor : {e : ℕ} {middle : List ℕ} → (n ≡ 0 → ⊥) → Puts p before at s middle e → Puts q middle e t after end
+      → Puts (p + q) before at (s ++ cond (eqb n 0) [] t) after end
+  puts-floor h a b = rw (cond-false (eqb n 0) [] t (ne-eqb n 0 h)) (puts-then a b)

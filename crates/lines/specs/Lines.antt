@@ -90,12 +90,11 @@ desksBelow zero fl = []
 desksBelow (suc k) fl =
     desksBelow k fl ++ deskLine k (getD (fl .faulty) k false) (getD (fl .pass) k 0) (getD (fl .accept) k 0) (getD (fl .listed) k 0)
 
--- what a program prints of a run: one line without a floor, and otherwise the line of the clock after it, and then the rest
-unfoldable pub reportText : ℕ → ℕ → Floor → List ℕ → List ℕ
-reportText count answer fl rest =
-    twoNumbers ranWord count answerWord answer
-    ++ cond (eqb (fl .settings .n) 0) [] (twoNumbers clockWord (fl .clock) pendingWord (fl .waiting) ++ rest)
+-- what every report begins with: one line without a floor
+unfoldable pub headingText : ℕ → ℕ → Floor → List ℕ
+headingText count answer fl =
+    twoNumbers ranWord count answerWord answer ++ cond (eqb (fl .settings .n) 0) [] (twoNumbers clockWord (fl .clock) pendingWord (fl .waiting))
 
--- ALL THAT `floor` PRINTS: the rest is its desks. A floor has at most 16.
+-- ALL THAT `floor` PRINTS: without a floor there is no desk. A floor has at most 16.
 unfoldable pub outcomeText : ℕ → ℕ → Floor → List ℕ
-outcomeText count answer fl = reportText count answer fl (desksBelow (min (fl .settings .n) 16) fl)
+outcomeText count answer fl = headingText count answer fl ++ desksBelow (min (fl .settings .n) 16) fl

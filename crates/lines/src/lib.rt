@@ -21,6 +21,7 @@ ghost use Rattle.lines.specs.Lines.{
   twoNumbers,
   deskLine,
   desksBelow,
+  headingText,
   outcomeText,
 };
 
@@ -176,7 +177,7 @@ fn desks(out: &mut [u8], at: usize, floor: Floor) -> usize
 }
 
 // A line of two numbers with a word before each.
-pub fn two_numbers(out: &mut [u8], at: usize, first: &[u8], x: u64, second: &[u8], y: u64) -> usize
+fn two_numbers(out: &mut [u8], at: usize, first: &[u8], x: u64, second: &[u8], y: u64) -> usize
     requires { ⌜ at + (length (now first) + length (now second) + 41) ≤ length (now out) ⌝ }
     ensures { λ r. ⌜ Puts (length (now (first .entry)) + length (now (second .entry)) + 41) (now (out .entry)) at (twoNumbers (now (first .entry)) x (now (second .entry)) y) (now (out .exit)) r ⌝ }
 {
@@ -185,22 +186,30 @@ pub fn two_numbers(out: &mut [u8], at: usize, first: &[u8], x: u64, second: &[u8
     word(out, b, b"\n")
 }
 
-// All that `floor` prints.
-pub fn outcome(out: &mut [u8], count: usize, answer: u8, floor: Floor) -> usize
-    requires { ⌜ 22813 ≤ length (now out) ⌝ }
-    ensures { λ r. ⌜ Puts 22813 (now (out .entry)) 0 (outcomeText count answer floor) (now (out .exit)) r ⌝ }
+// What a report begins with: the line of the run, and where there is a floor the line of its clock.
+pub fn heading(out: &mut [u8], count: usize, answer: u8, floor: Floor) -> usize
+    requires { ⌜ 109 ≤ length (now out) ⌝ }
+    ensures { λ r. ⌜ Puts 109 (now (out .entry)) 0 (headingText count answer floor) (now (out .exit)) r ⌝ }
 {
     let ran = two_numbers(out, 0, b"ran ", count as u64, b" answer ", answer as u64);
     if floor.settings.n == 0 {
         return ran;
     }
-    let clock = two_numbers(
+    two_numbers(
         out,
         ran,
         b"clock ",
         floor.clock as u64,
         b" pending ",
         floor.waiting as u64,
-    );
-    desks(out, clock, floor)
+    )
+}
+
+// All that `floor` prints.
+pub fn outcome(out: &mut [u8], count: usize, answer: u8, floor: Floor) -> usize
+    requires { ⌜ 22813 ≤ length (now out) ⌝ }
+    ensures { λ r. ⌜ Puts 22813 (now (out .entry)) 0 (outcomeText count answer floor) (now (out .exit)) r ⌝ }
+{
+    let next = heading(out, count, answer, floor);
+    desks(out, next, floor)
 }

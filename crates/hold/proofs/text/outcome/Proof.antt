@@ -1,37 +1,19 @@
 -- `hold::text::outcome` meets its contract. Assumes nothing.
 use borrow.Author.Needs.{needs}
-use Rattle.hold.specs.Text.{holdText}
 use Rattle.lines.proofs.LineLaws.{puts-no-floor, puts-floor}
+use Rattle.hold.specs.Text.{holdText}
 use Rattle.hold.proofs.text.outcome.Statement.{statement}
 use Rattle.hold.proofs.text.outcome.Tie as tie
 
-slice-aggregate-two-numbers : tie.Need-slice-aggregate-two-numbers
-slice-aggregate-two-numbers c = search needs
-
-slice-aggregate-two-numbers-2 : tie.Need-slice-aggregate-two-numbers-2
-slice-aggregate-two-numbers-2 c = search needs
-
-two-numbers-requires : tie.Need-two-numbers-requires
-two-numbers-requires c κs = search needs
+heading-requires : tie.Need-heading-requires
+heading-requires c κs = search needs
 
 same-length : tie.Need-same-length
 same-length c = search needs
 
 returns : tie.Need-returns
 unfolding holdText
-returns c = search (puts-no-floor 5504)
-
-slice-aggregate-two-numbers-3 : tie.Need-slice-aggregate-two-numbers-3
-slice-aggregate-two-numbers-3 c = search needs
-
-cast-two-numbers : tie.Need-cast-two-numbers
-cast-two-numbers c = search needs
-
-slice-aggregate-two-numbers-4 : tie.Need-slice-aggregate-two-numbers-4
-slice-aggregate-two-numbers-4 c = search needs
-
-two-numbers-requires-2 : tie.Need-two-numbers-requires-2
-two-numbers-requires-2 c κs = search needs
+returns c = search (puts-no-floor 109 5504)
 
 entries-requires : tie.Need-entries-requires
 entries-requires c κs = search needs
@@ -41,21 +23,9 @@ same-length-2 c = search needs
 
 returns-2 : tie.Need-returns-2
 unfolding holdText
-returns-2 c = search (puts-floor 5504)
+returns-2 c = search (puts-floor 109 5504)
 
 pub outcome-spec : {M : Type 1} → statement M
 outcome-spec =
     tie.close
-    (tie.spec
-    slice-aggregate-two-numbers
-    slice-aggregate-two-numbers-2
-    two-numbers-requires
-    same-length
-    returns
-    slice-aggregate-two-numbers-3
-    cast-two-numbers
-    slice-aggregate-two-numbers-4
-    two-numbers-requires-2
-    entries-requires
-    same-length-2
-    returns-2)
+    (tie.spec heading-requires same-length returns entries-requires same-length-2 returns-2)
