@@ -24,7 +24,7 @@ use Rattle.shapes.proofs.ShapeLaws.{shape-holds, holds-shape}
 use Rattle.moves.specs.declared.head.Head.{Head}
 use Rattle.moves.specs.Moves.{Outcome, refusal, stepAt, Told, noneNew, toldAt, held, left, answering}
 use Rattle.moves.proofs.Steps.{step-refused, told-refused, refused}
-use Rattle.moves.proofs.StepLaws.{Fit, told-out, told-added, step-answer, step-next}
+use Rattle.moves.proofs.StepLaws.{Fit, told-out, told-answer, told-added, step-answer, step-next}
 use Rattle.actions.specs.Actions.{ofKind, moveOf, wrongArea, outOfShape, callChecks, acted}
 
 -- ---- the move that a kind names
@@ -175,12 +175,9 @@ module _ (fl : Floor) (area : List ℕ) (x : Action) where
       let number = firstOf (callChecks fl area) in
       cond-both Q (eqb number 0) (toldAt fl area (moveOf x)) (noneNew (refusal number fl area)) (λ e. steps (eqb-true number 0 e)) (λ e. refuses number (eqb-false number 0 e))
 
-  told-answer : toldAt fl area (moveOf x) .out .answer ≡ answer (stateOf fl area) (moveOf x)
-  told-answer = ap (λ (o : Outcome). o .answer) (told-out fl area (moveOf x)) ∙ step-answer fl area (moveOf x)
-
   -- what was carried out was carried out on a floor in shape, and by the rules
   pub act-done : acted fl area x .out .answer ≡ 0 → (inShapeAt fl area ≡ true) × (answer (stateOf fl area) (moveOf x) ≡ 0)
-  act-done = act-both (λ (t : Told). t .out .answer ≡ 0 → (inShapeAt fl area ≡ true) × (answer (stateOf fl area) (moveOf x) ≡ 0)) (λ number some z. absurd (some z)) (λ clear z. (shaped clear, sym told-answer ∙ z))
+  act-done = act-both (λ (t : Told). t .out .answer ≡ 0 → (inShapeAt fl area ≡ true) × (answer (stateOf fl area) (moveOf x) ≡ 0)) (λ number some z. absurd (some z)) (λ clear z. (shaped clear, sym (told-answer fl area (moveOf x)) ∙ z))
     where
       shaped : firstOf (callChecks fl area) ≡ 0 → inShapeAt fl area ≡ true
       shaped clear = call-clear fl area [] (sym alone ∙ clear) .0

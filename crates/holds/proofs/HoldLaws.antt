@@ -38,6 +38,7 @@ use Rattle.holds.specs.Holding.{
   notedOutOfShape,
   Holding,
   refusing,
+  opening,
   openedHold,
   taking,
   took,
@@ -57,6 +58,10 @@ pub open-by : (area : List ℕ) (x : Action) (t : Told) → t ≡ noneNew (opene
     → record { answer = t .out .answer; hold = h; area = t .out .area } ≡ openedHold area x
 unfolding openedHold
 open-by area x t e h q = rw (q, e)
+
+pub opened-hold : (area : List ℕ) (x : Action) → openedHold area x ≡ opening (opened area x)
+unfolding openedHold
+opened-hold area x = refl
 
 -- ---- an action
 

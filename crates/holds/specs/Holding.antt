@@ -75,11 +75,13 @@ pub record Holding : Type 0 where
 abbrev pub refusing : ℕ → Hold → List ℕ → Holding
 refusing number h area = record { answer = number; hold = h; area = area }
 
--- AN OPENING: the library's, and nothing is noted
+-- what the library made of an opening: nothing is noted
+abbrev pub opening : Outcome → Holding
+opening o = record { answer = o .answer; hold = newHold (o .floor); area = o .area }
+
+-- AN OPENING
 unfoldable pub openedHold : List ℕ → Action → Holding
-openedHold area x =
-    let o = opened area x in
-    record { answer = o .answer; hold = newHold (o .floor); area = o .area }
+openedHold area x = opening (opened area x)
 
 -- what the library made of an action, and what is noted of it: every record of kind 1 that it answers with 0 is an announcement carried out
 abbrev pub taking : Hold → Action → Outcome → Holding

@@ -72,6 +72,9 @@ module _ (fl : Floor) (area : List ℕ) (m : Move) where
       cond-both (λ (o : Outcome). o .answer ≡ answer s m) (eqb (answer s m) 0) (carriedOut fl area (effect s m)) (refusal (answer s m) fl area)
       (λ e. sym (eqb-true (answer s m) 0 e)) (λ e. refl)
 
+  pub told-answer : toldAt fl area m .out .answer ≡ answer s m
+  told-answer = ap (λ (o : Outcome). o .answer) told-out ∙ step-answer
+
   module _ (fit : Fit fl area) (e : answer s m ≡ 0) where
     pub step-carried : stepAt fl area m ≡ carriedOut fl area (effect s m)
     unfolding stepAt

@@ -31,7 +31,7 @@ use Rattle.holds.specs.declared.Hold.{Hold}
 use Rattle.noting.specs.Entry.{begun, clockNoted}
 use Rattle.holds.specs.Holding.{announcersAt, notedAt, begunAt, isPrinted, waitOverAt, withFloor, announcing, withPrinted, notedInShape, Holding, openedHold, took, printed}
 use Rattle.noting.proofs.EntryLaws.{noted-again}
-use Rattle.holds.proofs.HoldLaws.{announced-below, took-acted, printed-either}
+use Rattle.holds.proofs.HoldLaws.{opened-hold, announced-below, took-acted, printed-either}
 use Rattle.printing.proofs.ActionLaws.{settings-stay, clock-on, marks-stay, announcer-below, mark-set, announces-own, announces-no-other, announces-none}
 use Rattle.noting.proofs.Noting.{one-more, Noting, noting-none, noting-other, noting-announced}
 use Rattle.noting.proofs.ShapeKept.{EntryShape, more-begun, later-shape, announced-shape, printed-shape}
@@ -200,13 +200,13 @@ module _ (k : rules.Settings) (few : k .n ≤ 16) where
 -- ---- an opening
 
 pub opened-follows : (area : List ℕ) (x : Action) → opened area x .answer ≡ 0 → let k = settingsOf (settingsIn x) in (few : k .n ≤ 16) → Follows k few [] (openedHold area x .hold) (openedHold area x .area)
-unfolding openedHold
 opened-follows area x opens few =
     let k = settingsOf (settingsIn x) in
-    record {
+    rw (opened-hold area x)
+    (record {
       state = opened-state area x opens ∙ sym (after-none (fresh k));
       fit = opened-fit area x opens;
       shaped = nothing-noted (opened area x .floor);
       long = (length-replicate {A = ℕ} 64 0, length-replicate {A = ℕ} 64 0);
       noting = λ e l. rw (getD-replicate {A = ℕ} 64 e 0 0 l) (noting-none k few e);
-    }
+    })

@@ -20,7 +20,8 @@ use Rattle.actions.proofs.Openings.{opened-none}
 use Rattle.runs.specs.Runs.{wholeChecks}
 use Rattle.runs.proofs.CallLaws.{tail, number-0, records-there}
 use Rattle.holds.specs.declared.Hold.{Hold}
-use Rattle.holds.specs.Holding.{newHold, Holding, refusing, openedHold, took}
+use Rattle.holds.specs.Holding.{newHold, Holding, refusing, opening, openedHold, took}
+use Rattle.holds.proofs.HoldLaws.{opened-hold}
 use Rattle.printing.specs.Whole.{Taken, takenFrom, takenAfter, wholeTaken}
 
 -- a kind that no floor knows asks for no action
@@ -82,8 +83,7 @@ module _ (limit : ℕ) (bytes : List ℕ) (all : Taken) (h : Hold) (area : List 
 
 -- an opening by the library's
 pub opened-alike : (area : List ℕ) (x y : Action) → opened area x ≡ opened area y → openedHold area x ≡ openedHold area y
-unfolding openedHold
-opened-alike area x y e = rw e
+opened-alike area x y e = opened-hold area x ∙ ap opening e ∙ sym (opened-hold area y)
 
 module _ (area bytes : List ℕ) where
   -- h is the hold that is none
@@ -112,13 +112,15 @@ module _ (area bytes : List ℕ) where
   pub taken-either : (Q : Taken → Type 0) → ((o : Holding) → o .hold .floor ≡ noFloor → Q (record { count = 0; out = o }))
       → (let x = actionOf (take 16 bytes) in let o = openedHold area x in opened area x .answer ≡ 0 → (n : ℕ) → Q (takenFrom n (o .hold) (o .area) (drop 16 bytes) 0))
       → Q (wholeTaken area bytes)
-  unfolding wholeTaken takenAfter openedHold
+  unfolding wholeTaken takenAfter
   taken-either Q none ran =
       let number = firstOf (wholeChecks area bytes) in
       let x = actionOf (take 16 bytes) in
       let o = openedHold area x in
+      let is : o ≡ opening (opened area x) = opened-hold area x in
+      let answered : opened area x .answer ≡ o .answer = ap (λ (q : Holding). q .answer) (sym is) in
       cond-both Q (eqb number 0) (takenAfter o bytes) (record { count = 0; out = refusing number (newHold noFloor) area })
       (λ e. cond-both Q (eqb (o .answer) 0) (takenFrom (length bytes / 16 - 1) (o .hold) (o .area) (drop 16 bytes) 0) (record { count = 0; out = o })
-      (λ z. ran (eqb-true (o .answer) 0 z) (length bytes / 16 - 1))
-      (λ z. none o (opened-none area x (eqb-false (o .answer) 0 z))))
+      (λ z. ran (answered ∙ eqb-true (o .answer) 0 z) (length bytes / 16 - 1))
+      (λ z. none o (ap (λ (q : Holding). q .hold .floor) is ∙ opened-none area x (λ e. eqb-false (o .answer) 0 z (sym answered ∙ e)))))
       (λ e. none (refusing number (newHold noFloor) area) refl)

@@ -27,10 +27,10 @@ use Rattle.runs.specs.Runs.{moveAt, movesFrom, Went, wentFrom, stopped, wholeCh
 use Rattle.runs.proofs.CallLaws.{number-15, number-16, whole-15, whole-16, whole-stops, whole-runs}
 use Rattle.runs.proofs.RunLaws.{move-at, moves-none, moves-next, went-none, went-next, went-stop}
 use Rattle.holds.specs.declared.Hold.{Hold}
-use Rattle.holds.specs.Holding.{newHold, Holding, refusing, openedHold, took}
+use Rattle.holds.specs.Holding.{newHold, Holding, refusing, opening, openedHold, took}
 use Rattle.printing.specs.Whole.{Taken, takenFrom, wholeTaken}
 use Rattle.printing.specs.Promise.{Promised}
-use Rattle.holds.proofs.HoldLaws.{took-acted, taking-floor, took-still}
+use Rattle.holds.proofs.HoldLaws.{opened-hold, took-acted, taking-floor, took-still}
 use Rattle.printing.proofs.WholeLaws.{taken-none, taken-next, taken-stop, taken-refused, taken-unopened, taken-opened, taken-either}
 use Rattle.printing.proofs.Follows.{Follows, opened-with, took-follows, opened-follows}
 use Rattle.printing.proofs.Promised.{promised}
@@ -155,21 +155,20 @@ module _ (area bytes : List ℕ) where
     n = length bytes / 16 - 1
 
     opened-same : opened area x .answer ≡ 0 → Same (wholeTaken area bytes) (wholeWent area bytes)
-    unfolding openedHold
     opened-same z =
         let o = opened area x in
-        let h = openedHold area x in
+        let h = opening o in
         let k = settingsOf (settingsIn x) in
         let few = limits k (openings.limits area x z) .desks .1 in
-        subst (λ (t : Taken). Same t (wholeWent area bytes)) (taken-opened area bytes long there h refl z (takenFrom n (h .hold) (h .area) part 0) refl)
+        let begin : Follows k few [] (h .hold) (h .area) = subst (λ (q : Holding). Follows k few [] (q .hold) (q .area)) (opened-hold area x) (opened-follows area x z few) in
+        subst (λ (t : Taken). Same t (wholeWent area bytes)) (taken-opened area bytes long there h (sym (opened-hold area x)) z (takenFrom n (h .hold) (h .area) part 0) refl)
         (subst (Same (takenFrom n (h .hold) (h .area) part 0)) (whole-runs area bytes long there o refl z (wentFrom n (o .floor) (o .area) part 0 0) refl)
-        (taken-same k few part n [] (h .hold) (h .area) 0 0 (opened-follows area x z few)))
+        (taken-same k few part n [] (h .hold) (h .area) 0 0 begin))
 
     unopened-same : opened area x .answer ≢ 0 → Same (wholeTaken area bytes) (wholeWent area bytes)
-    unfolding openedHold
     unopened-same z =
-        subst (λ (t : Taken). Same t (wholeWent area bytes)) (taken-unopened area bytes long there (openedHold area x) refl z)
-        (subst (Same (record { count = 0; out = openedHold area x })) (whole-stops area bytes long there (opened area x) refl z) refl)
+        subst (λ (t : Taken). Same t (wholeWent area bytes)) (taken-unopened area bytes long there (opening (opened area x)) (sym (opened-hold area x)) z)
+        (subst (Same (record { count = 0; out = opening (opened area x) })) (whole-stops area bytes long there (opened area x) refl z) refl)
 
   -- refused before it opens
   refused-same : (number : ℕ) → eqb number 0 ≡ false → firstOf (wholeChecks area bytes) ≡ number → stopped number noFloor area ≡ wholeWent area bytes → Same (wholeTaken area bytes) (wholeWent area bytes)

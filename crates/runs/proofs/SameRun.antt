@@ -22,7 +22,7 @@ use Rattle.floors.specs.declared.Floor.{Floor}
 use Rattle.shapes.specs.Shape.{inShapeAt}
 use Rattle.moves.specs.Moves.{Outcome, stepAt, toldAt}
 use Rattle.moves.proofs.Steps.{step-refused}
-use Rattle.moves.proofs.StepLaws.{Fit, told-new, told-out, step-answer, step-fit, step-state}
+use Rattle.moves.proofs.StepLaws.{Fit, told-new, told-out, told-answer, step-fit, step-state}
 use Rattle.actions.proofs.Calls.{fit-shape}
 use Rattle.runs.specs.Runs.{moveAt, movesFrom, Went, wentFrom, went, stopped}
 use Rattle.runs.proofs.CallLaws.{run-0, run-16}
@@ -54,18 +54,15 @@ module _ (bytes : List ℕ) where
     abbrev o : Outcome
     o = stepAt fl area m
 
-    told-answer : toldAt fl area m .out .answer ≡ answer s m
-    told-answer = ap (λ (q : Outcome). q .answer) (told-out fl area m) ∙ step-answer fl area m
-
     more-same : (z : answer s m ≡ 0) → Same (k + 1) (total + bit (isNew s m)) (wentFrom n (o .floor) (o .area) bytes (k + 1) (total + bit (isNew s m))) (run most (stateOf (o .floor) (o .area)) moves)
         → Same k total (wentFrom (suc n) fl area bytes k total) (run (suc most) s (m ∷ moves))
     more-same z same =
-        rw (went-next fl area bytes n k total (toldAt fl area m) refl (told-answer ∙ z), told-out fl area m, told-new fl area m, run-next most s m moves z, ← step-state fl area m fit z o refl)
+        rw (went-next fl area bytes n k total (toldAt fl area m) refl (told-answer fl area m ∙ z), told-out fl area m, told-new fl area m, run-next most s m moves z, ← step-state fl area m fit z o refl)
         (record { count = omega (arith, same .count); totals = omega (arith, same .totals); answer = same .answer; state = same .state; fit = same .fit })
 
     stop-same : (answer s m ≡ 0 → ⊥) → Same k total (wentFrom (suc n) fl area bytes k total) (run (suc most) s (m ∷ moves))
     stop-same z =
-        rw (went-stop fl area bytes n k total (toldAt fl area m) refl (λ e. z (sym told-answer ∙ e)), told-out fl area m, run-stop most s m moves z, ← step-refused fl area m (answer s m) z refl)
+        rw (went-stop fl area bytes n k total (toldAt fl area m) refl (λ e. z (sym (told-answer fl area m) ∙ e)), told-out fl area m, run-stop most s m moves z, ← step-refused fl area m (answer s m) z refl)
         (record { count = omega arith; totals = omega arith; answer = refl; state = refl; fit = fit })
 
   pub run-same : (most left : ℕ) (fl : Floor) (area : List ℕ) (k total : ℕ) → Fit fl area
