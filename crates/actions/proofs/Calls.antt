@@ -1,89 +1,31 @@
--- The call for one action: the move that a kind names, the checks that calls share, and its ways out. Assumes nothing.
+-- The call for one action: the checks that calls share, and its ways out. Assumes nothing.
 use mathlib.Core.Path.{_≡_, refl, sym, ap, _∙_, subst}
-use mathlib.Core.Bool.{Bool, true, false, not, false≢true}
+use mathlib.Core.Bool.{Bool, true, false, not}
 use mathlib.Core.List.{List, [], _∷_, _++_, append-nil}
 use mathlib.Core.Logic.{_≢_, ⊎-elim}
-use Prim.Native.Nat.{ℕ, zero, suc, _+_, _≤_}
+use Prim.Native.Nat.{ℕ, _+_}
 use native.Mathlib.Omega.{arith}
 use lib.Dec.{eqb}
-use lib.ListN.{length, getD, List·getD-eq-default}
+use lib.ListN.{length}
 use borrow.Author.Tests.{eq-eqb, ne-eqb, eqb-true, eqb-false}
 use Rattle.sets.specs.Counting.{bit}
 use Rattle.sets.proofs.Tests.{with-result, was-true, was-false, decided, cond-both}
-use Rattle.rules.specs.Rules.{Move, delay, announce, passOn, accept, receive, crash, resetTimers, falseNote, unknown, Check, answer, next, firstOf, mostNotes}
+use Rattle.rules.specs.Rules.{Move, announce, unknown, Check, answer, next, firstOf, mostNotes}
 use Rattle.rules.specs.NewSources.{sizes}
 use Rattle.rules.proofs.CheckLaws.{first-none, first-fails, first-passes, not-zero}
 use Rattle.rules.proofs.Clauses.{answer-unknown}
 use Rattle.records.specs.Records.{wellFormed}
 use Rattle.records.specs.declared.Action.{Action}
 use Rattle.floors.specs.Bridge.{stateOf, Sized}
-use Rattle.floors.specs.declared.Settings.{Settings}
 use Rattle.floors.specs.declared.Floor.{Floor}
 use Rattle.shapes.specs.Shape.{inShapeAt}
 use Rattle.shapes.proofs.ShapeLaws.{shape-holds, holds-shape}
-use Rattle.moves.specs.declared.head.Head.{Head}
-use Rattle.moves.specs.Moves.{Outcome, refusal, stepAt, Told, noneNew, toldAt, held, left, answering}
+use Rattle.moves.specs.Moves.{Outcome, refusal, stepAt, Told, noneNew, toldAt}
 use Rattle.moves.proofs.Steps.{step-refused, told-refused, refused}
 use Rattle.moves.proofs.StepLaws.{Fit, told-out, told-answer, told-added, step-answer, step-next}
-use Rattle.actions.specs.Actions.{ofKind, moveOf, wrongArea, outOfShape, callChecks, acted}
-
--- ---- the move that a kind names
-
-pub kind-move : (x : Action) (kind : ℕ) → wellFormed x ≡ true → x .kind ≡ kind → moveOf x ≡ getD (ofKind x) kind unknown
-unfolding moveOf
-kind-move x kind w e = rw (w, e)
-
-pub kind-none : (x : Action) → wellFormed x ≡ true → 8 ≤ x .kind → moveOf x ≡ unknown
-unfolding moveOf ofKind
-kind-none x w h = rw w (List·getD-eq-default (ofKind x) unknown h)
-
-pub malformed : (x : Action) → wellFormed x ≡ false → moveOf x ≡ unknown
-unfolding moveOf
-malformed x w = rw w
-
--- an announcement is what a well-formed action of kind 1 asks for, and no other
-module _ (x : Action) where
-  pub announce-move : wellFormed x ≡ true → x .kind ≡ 1 → moveOf x ≡ announce (x .desk .0) (x .entry .0)
-  unfolding ofKind
-  announce-move w e = kind-move x 1 w e
-
-  abbrev announces : Move → Bool
-  announces (delay t) = false
-  announces (announce i e) = true
-  announces (passOn i) = false
-  announces (accept j) = false
-  announces (receive j i e) = false
-  announces (crash i) = false
-  announces (resetTimers i) = false
-  announces (falseNote i j e t) = false
-  announces unknown = false
-
-  the-first : (kind : ℕ) → announces (getD (ofKind x) kind unknown) ≡ true → kind ≡ 1
-  unfolding ofKind
-  the-first zero h = absurd (false≢true h)
-  the-first (suc zero) h = refl
-  the-first (suc (suc zero)) h = absurd (false≢true h)
-  the-first (suc (suc (suc zero))) h = absurd (false≢true h)
-  the-first (suc (suc (suc (suc zero)))) h = absurd (false≢true h)
-  the-first (suc (suc (suc (suc (suc zero))))) h = absurd (false≢true h)
-  the-first (suc (suc (suc (suc (suc (suc zero)))))) h = absurd (false≢true h)
-  the-first (suc (suc (suc (suc (suc (suc (suc zero))))))) h = absurd (false≢true h)
-  the-first (suc (suc (suc (suc (suc (suc (suc (suc kind)))))))) h = absurd (false≢true h)
-
-  pub announce-kind : (i e : ℕ) → moveOf x ≡ announce i e → x .kind ≡ 1
-  announce-kind i e asks =
-      ⊎-elim
-      (λ w. the-first (x .kind) (ap announces (sym (kind-move x (x .kind) w refl) ∙ asks)))
-      (λ w. absurd (false≢true (ap announces (sym (malformed x w) ∙ asks))))
-      (decided (wellFormed x))
-
--- a step, by the move that the action names
-pub by-move : (t : Told) (fl : Floor) (area : List ℕ) (x : Action) (m : Move) → moveOf x ≡ m → t ≡ toldAt fl area m → t ≡ toldAt fl area (moveOf x)
-by-move t fl area x m e s = rw e s
-
-pub no-kind : (k : Settings) (h r : Head) (f : List Bool) (p a l s x area : List ℕ) → r ≡ answering 3 h
-    → left k r f p a l s x area ≡ toldAt (held k h f p a l s x) area unknown
-no-kind k h r f p a l s x area q = refused k h r f p a l s x area unknown 3 refl (answer-unknown (stateOf (held k h f p a l s x) area)) q
+use Rattle.kinds.specs.Kinds.{moveOf}
+use Rattle.kinds.proofs.KindLaws.{malformed, announce-move}
+use Rattle.actions.specs.Actions.{wrongArea, outOfShape, callChecks, acted}
 
 -- ---- a floor in shape is one that a step may be made on
 

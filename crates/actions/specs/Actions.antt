@@ -3,8 +3,8 @@ use mathlib.Core.Bool.{not, cond, _&&_}
 use mathlib.Core.List.{List, [], _∷_}
 use Prim.Native.Nat.{ℕ}
 use lib.Dec.{eqb}
-use lib.ListN.{length, getD, replicate}
-use Rattle.rules.specs.Rules.{Move, delay, announce, passOn, accept, receive, crash, resetTimers, falseNote, unknown, Check, _when_, firstOf, outside, mostNotes, fresh}
+use lib.ListN.{length, replicate}
+use Rattle.rules.specs.Rules.{Check, _when_, firstOf, outside, mostNotes, fresh}
 use Rattle.records.specs.Records.{wellFormed}
 use Rattle.records.specs.declared.Action.{Action}
 use Rattle.floors.specs.Bridge.{settingsOf, floorOf, noFloor}
@@ -12,27 +12,7 @@ use Rattle.floors.specs.declared.Settings.{Settings}
 use Rattle.floors.specs.declared.Floor.{Floor}
 use Rattle.shapes.specs.Shape.{inShapeAt}
 use Rattle.moves.specs.Moves.{Outcome, refusal, Told, noneNew, toldAt}
-
--- ---- the move that an action asks for
-
--- "kind .. action .. fields used"; an opening has no place on an open floor
-unfoldable pub ofKind : Action → List Move
-ofKind x =
-    delay (x .a)
-    ∷ announce (x .desk .0) (x .entry .0)
-    ∷ passOn (x .desk .0)
-    ∷ accept (x .desk .0)
-    ∷ receive (x .desk .0) (x .other .0) (x .entry .0)
-    ∷ crash (x .desk .0)
-    ∷ resetTimers (x .desk .0)
-    ∷ falseNote (x .desk .0) (x .other .0) (x .entry .0) (x .a)
-    ∷ []
-
--- "3: unknown or misplaced kind, or a non-zero unused field"
-unfoldable pub moveOf : Action → Move
-moveOf x = cond (wellFormed x) (getD (ofKind x) (x .kind) unknown) unknown
-
--- ---- the calls
+use Rattle.kinds.specs.Kinds.{moveOf}
 
 -- "15: note area is not 2,048 long"
 abbrev pub wrongArea : List ℕ → Check

@@ -1,6 +1,4 @@
 // An opening, and one action on a floor.
-pub mod step;
-
 use floors::Floor;
 use floors::Settings;
 use moves::head::Head;
@@ -109,7 +107,7 @@ pub fn act(floor: Floor, area: &mut [u64], action: Action) -> Acted
         clock: floor.clock,
         waiting: floor.waiting,
     };
-    let after = step::step(
+    let after = kinds::step(
         settings,
         head,
         action,

@@ -20,7 +20,8 @@ use Rattle.floors.specs.declared.Floor.{Floor}
 use Rattle.shapes.specs.Shape.{inShapeAt}
 use Rattle.shapes.proofs.ShapeLaws.{shape-holds}
 use Rattle.moves.specs.Moves.{Outcome, Told, noneNew}
-use Rattle.actions.specs.Actions.{moveOf, wrongArea, acted, opened}
+use Rattle.kinds.specs.Kinds.{moveOf}
+use Rattle.actions.specs.Actions.{wrongArea, acted, opened}
 use Rattle.actions.proofs.Calls.{area-fails, area-passes, call-15, call-1, call-passes, call-clear, act-done, act-refused, act-unknown, act-same, act-announces}
 use Rattle.holds.specs.declared.Hold.{Hold}
 use Rattle.noting.specs.Entry.{clockNoted}

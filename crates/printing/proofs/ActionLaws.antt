@@ -24,8 +24,10 @@ use Rattle.floors.specs.declared.Floor.{Floor}
 use Rattle.floors.proofs.Bridge.{desk-at, sized-whole}
 use Rattle.moves.specs.Moves.{Outcome}
 use Rattle.moves.proofs.StepLaws.{Fit}
-use Rattle.actions.specs.Actions.{moveOf, acted}
-use Rattle.actions.proofs.Calls.{announce-kind, act-done, act-answer, act-next, act-announces}
+use Rattle.kinds.specs.Kinds.{moveOf}
+use Rattle.actions.specs.Actions.{acted}
+use Rattle.kinds.proofs.KindLaws.{announce-kind}
+use Rattle.actions.proofs.Calls.{act-done, act-answer, act-next, act-announces}
 use Rattle.holds.proofs.HoldLaws.{announced-below}
 
 module _ (fl : Floor) (area : List ℕ) (x : Action) (fit : Fit fl area) where

@@ -24,7 +24,8 @@ use Rattle.floors.specs.declared.Settings.{Settings}
 use Rattle.floors.specs.declared.Floor.{Floor}
 use Rattle.moves.specs.Moves.{Outcome}
 use Rattle.moves.proofs.StepLaws.{Fit}
-use Rattle.actions.specs.Actions.{moveOf, settingsIn, acted, opened}
+use Rattle.kinds.specs.Kinds.{moveOf}
+use Rattle.actions.specs.Actions.{settingsIn, acted, opened}
 use Rattle.actions.proofs.Calls.{act-next}
 use Rattle.actions.proofs.Openings.{opened-state, opened-fit}
 use Rattle.holds.specs.declared.Hold.{Hold}

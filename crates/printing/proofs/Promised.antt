@@ -17,7 +17,8 @@ use Rattle.records.specs.declared.Action.{Action}
 use Rattle.floors.specs.Bridge.{settingsOf, stateOf}
 use Rattle.floors.specs.declared.Settings.{Settings}
 use Rattle.shapes.specs.Shape.{inShapeAt}
-use Rattle.actions.specs.Actions.{moveOf, settingsIn, opened}
+use Rattle.kinds.specs.Kinds.{moveOf}
+use Rattle.actions.specs.Actions.{settingsIn, opened}
 use Rattle.actions.proofs.Calls.{fit-shape, act-answer}
 use Rattle.actions.proofs.Openings as openings
 use Rattle.holds.specs.declared.Hold.{Hold}

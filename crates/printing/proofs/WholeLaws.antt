@@ -14,8 +14,9 @@ use Rattle.rules.specs.Rules.{unknown, firstOf, mostNotes}
 use Rattle.records.specs.Records.{wellFormed, actionOf, recordAt}
 use Rattle.records.specs.declared.Action.{Action}
 use Rattle.floors.specs.Bridge.{noFloor}
-use Rattle.actions.specs.Actions.{moveOf, opened}
-use Rattle.actions.proofs.Calls.{kind-none, malformed}
+use Rattle.kinds.specs.Kinds.{moveOf}
+use Rattle.actions.specs.Actions.{opened}
+use Rattle.kinds.proofs.KindLaws.{kind-none, malformed}
 use Rattle.actions.proofs.Openings.{opened-none}
 use Rattle.runs.specs.Runs.{wholeChecks}
 use Rattle.runs.proofs.CallLaws.{tail, number-0, records-there}

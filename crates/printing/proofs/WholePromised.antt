@@ -20,7 +20,8 @@ use Rattle.floors.specs.Bridge.{settingsOf, noFloor}
 use Rattle.floors.specs.declared.Floor.{Floor}
 use Rattle.floors.proofs.Bridge.{no-entries}
 use Rattle.moves.specs.Moves.{Outcome, Told, toldAt}
-use Rattle.actions.specs.Actions.{moveOf, settingsIn, acted, opened}
+use Rattle.kinds.specs.Kinds.{moveOf}
+use Rattle.actions.specs.Actions.{settingsIn, acted, opened}
 use Rattle.actions.proofs.Calls.{act-fits}
 use Rattle.actions.proofs.Openings as openings
 use Rattle.runs.specs.Runs.{moveAt, movesFrom, Went, wentFrom, stopped, wholeChecks, wholeWent}

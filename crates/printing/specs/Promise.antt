@@ -8,7 +8,7 @@ use Rattle.rules.specs.Rules.{Settings, Move, answer}
 use Rattle.agreement.specs.Demand.{floorAfter, AnnouncedBy, LaterThanWait, OnEveryGoodList}
 use Rattle.records.specs.declared.Action.{Action}
 use Rattle.floors.specs.Bridge.{stateOf}
-use Rattle.actions.specs.Actions.{moveOf}
+use Rattle.kinds.specs.Kinds.{moveOf}
 use Rattle.noting.specs.FirstClock.{FirstBy}
 use Rattle.holds.specs.declared.Hold.{Hold}
 use Rattle.holds.specs.Holding.{notedAt, begunAt, isPrinted, took, mayPrint, printed}

@@ -6,7 +6,7 @@ use lib.Dec.{eqb}
 use Rattle.sets.specs.Counting.{bit}
 use Rattle.rules.specs.Rules.{Move}
 use Rattle.records.specs.declared.Action.{Action}
-use Rattle.actions.specs.Actions.{moveOf}
+use Rattle.kinds.specs.Kinds.{moveOf}
 use Rattle.holds.specs.declared.Hold.{Hold}
 use Rattle.holds.specs.Holding.{Holding, took, printed}
 

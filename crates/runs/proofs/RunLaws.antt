@@ -20,11 +20,11 @@ use Rattle.records.specs.Records.{wellFormed, actionOf, readOf, recordAt}
 use Rattle.records.specs.declared.Action.{Action}
 use Rattle.records.specs.declared.Reading.{Reading}
 use Rattle.records.proofs.RecordLaws.{read-zero, read-good}
-use Rattle.actions.proofs.Calls.{malformed}
+use Rattle.kinds.proofs.KindLaws.{malformed}
 use Rattle.moves.specs.declared.head.Head.{Head}
 use Rattle.moves.specs.Moves.{Outcome, stepAt, Told, toldAt, held, left, Ready}
 use Rattle.moves.proofs.StepLaws.{Fit, fit-ready, told-out, step-answer, step-fit, step-long}
-use Rattle.actions.specs.Actions.{moveOf}
+use Rattle.kinds.specs.Kinds.{moveOf}
 use Rattle.runs.specs.Runs.{moveAt, movesFrom, Went, wentFrom}
 
 -- ---- a record that was read

@@ -23,7 +23,8 @@ use Rattle.floors.specs.declared.Floor.{Floor}
 use Rattle.floors.proofs.Bridge.{no-entries}
 use Rattle.moves.specs.Moves.{Outcome}
 use Rattle.moves.proofs.StepLaws.{Fit}
-use Rattle.actions.specs.Actions.{opened, settingsIn, moveOf, acted}
+use Rattle.kinds.specs.Kinds.{moveOf}
+use Rattle.actions.specs.Actions.{opened, settingsIn, acted}
 use Rattle.actions.proofs.Calls.{act-next}
 use Rattle.actions.proofs.Openings.{opened-state, opened-fit, limits}
 use Rattle.runs.specs.Runs.{movesFrom, Went, wentFrom, went, unbegun, wholeWent}

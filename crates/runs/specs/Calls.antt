@@ -5,7 +5,8 @@ use Rattle.rules.specs.Rules.{Move}
 use Rattle.records.specs.declared.Action.{Action}
 use Rattle.floors.specs.declared.Floor.{Floor}
 use Rattle.moves.specs.Moves.{Outcome}
-use Rattle.actions.specs.Actions.{moveOf, acted}
+use Rattle.kinds.specs.Kinds.{moveOf}
+use Rattle.actions.specs.Actions.{acted}
 use Rattle.runs.specs.Runs.{movesFrom, went}
 
 pub data Call : Type 0 where

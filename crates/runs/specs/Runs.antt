@@ -10,7 +10,8 @@ use Rattle.records.specs.Records.{actionOf, recordAt}
 use Rattle.floors.specs.Bridge.{noFloor}
 use Rattle.floors.specs.declared.Floor.{Floor}
 use Rattle.moves.specs.Moves.{Outcome, refusal, toldAt}
-use Rattle.actions.specs.Actions.{moveOf, wrongArea, callChecks, opened}
+use Rattle.kinds.specs.Kinds.{moveOf}
+use Rattle.actions.specs.Actions.{wrongArea, callChecks, opened}
 
 -- ---- the moves of a sequence
 

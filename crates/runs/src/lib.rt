@@ -1,6 +1,5 @@
 // Runs of action records: a run on a floor, the part of the sequence that it has not carried out, and a whole
 // sequence, which opens its floor itself.
-use actions::step::step;
 use floors::Floor;
 use floors::Settings;
 use moves::head::Head;
@@ -15,7 +14,7 @@ ghost use Rattle.rules.specs.NewSources.{sizes};
 ghost use Rattle.records.specs.Records.{actionOf};
 ghost use Rattle.shapes.specs.Shape.{inShapeAt};
 ghost use Rattle.moves.specs.Moves.{Ready, held, left, toldAt};
-ghost use Rattle.actions.specs.Actions.{moveOf};
+ghost use Rattle.kinds.specs.Kinds.{moveOf};
 ghost use Rattle.runs.specs.Runs.{wentFrom, went, restOf, wholeWent};
 
 // How many records were carried out and how many of them added a source, the last number, and the floor.
@@ -48,7 +47,7 @@ fn step_record(
         return answered(3, head);
     }
     let action = reading.action;
-    step(
+    kinds::step(
         settings,
         head,
         action,

@@ -1,5 +1,5 @@
 -- `runs::step_record` meets its contract. Assumes nothing.
-use Rattle.actions.proofs.Calls.{by-move, no-kind}
+use Rattle.kinds.proofs.KindLaws.{by-move, no-kind}
 use Rattle.runs.proofs.RunLaws.{record-good, record-bad, by-record}
 use borrow.Author.Needs.{needs}
 use Rattle.runs.proofs.step_record.Statement.{statement}

@@ -1,4 +1,5 @@
-// One action on a floor that is taken apart. Every run is made of this step, and so is the call for one action.
+// The move that each kind of action asks for, on a floor that is taken apart. Every run is made of this step, and so is
+// the call for one action.
 use floors::Settings;
 use moves::delay::delay_by;
 use moves::desks::accept_by;
@@ -16,7 +17,7 @@ ghost use mathlib.Core.Bool.{true};
 ghost use lib.ListN.{length};
 ghost use Rattle.records.specs.Records.{wellFormed};
 ghost use Rattle.moves.specs.Moves.{Ready, held, left, toldAt};
-ghost use Rattle.actions.specs.Actions.{moveOf};
+ghost use Rattle.kinds.specs.Kinds.{moveOf};
 
 // Lending an array as a slice tells its length; nothing is done.
 fn lengths(a: &[bool], b: &[u32], c: &[u32], d: &[u64], e: &[u64], f: &[u16]) {}

@@ -1,12 +1,12 @@
--- `actions::step::step` meets its contract. Assumes nothing.
+-- `kinds::step` meets its contract. Assumes nothing.
 use Rattle.records.proofs.RecordLaws.{above}
 use Rattle.floors.specs.Bridge.{Sized}
 use Rattle.moves.specs.Moves.{held}
-use Rattle.actions.specs.Actions.{ofKind}
-use Rattle.actions.proofs.Calls.{kind-move, kind-none, by-move, no-kind}
+use Rattle.kinds.specs.Kinds.{ofKind}
+use Rattle.kinds.proofs.KindLaws.{kind-move, kind-none, by-move, no-kind}
 use borrow.Author.Needs.{needs}
-use Rattle.actions.proofs.step.step.Statement.{statement}
-use Rattle.actions.proofs.step.step.Tie as tie
+use Rattle.kinds.proofs.step.Statement.{statement}
+use Rattle.kinds.proofs.step.Tie as tie
 
 abbrev begun : tie.After-lengths → tie.Start
 begun c = c .before .before .before .before .before .before .before .before .before .before .before .before .before .before
