@@ -6,7 +6,7 @@ pub mod acting;
 use crate::acting::acts;
 use lines::field;
 use lines::word;
-use runs::Ran;
+use sequences::Ran;
 ghost use Prim.Native.Nat.{_+_, _*_, _≤_};
 ghost use lib.ListN.{length};
 

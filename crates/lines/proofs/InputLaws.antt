@@ -8,7 +8,8 @@ use borrow.Author.Tests.{lt-ltb, le-ltb}
 use Rattle.sets.proofs.Tests.{cond-true, cond-false}
 use Rattle.floors.specs.declared.Floor.{Floor}
 use Rattle.floors.specs.Bridge.{noFloor}
-use Rattle.runs.specs.Runs.{Went, stopped, wholeWent}
+use Rattle.sequences.specs.Sequences.{Went}
+use Rattle.runs.specs.Runs.{stopped, wholeWent}
 use Rattle.lines.specs.Input.{ofInput, inputWent}
 
 module _ {A : Type 0} (input : List ℕ) (refused taken : A) {w : A} where

@@ -5,7 +5,8 @@ use Prim.Native.Nat.{ℕ}
 use lib.Dec.{ltb}
 use lib.ListN.{length}
 use Rattle.floors.specs.Bridge.{noFloor}
-use Rattle.runs.specs.Runs.{Went, stopped, wholeWent}
+use Rattle.sequences.specs.Sequences.{Went}
+use Rattle.runs.specs.Runs.{stopped, wholeWent}
 
 -- "the program's input above 65,536 bytes" is refused, whatever its bytes are
 unfoldable pub ofInput : {A : Type 0} → List ℕ → A → A → A

@@ -2,7 +2,7 @@
 // from `at` on and answers where it ends. A number has at most 20 digits, and the room that a call asks for counts 20
 // for each.
 use floors::Floor;
-use runs::Ran;
+use sequences::Ran;
 use sets::EntryNo;
 use sets::EntrySet;
 ghost use mathlib.Core.Path.{_≡_};

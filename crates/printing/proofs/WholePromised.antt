@@ -24,9 +24,10 @@ use Rattle.kinds.specs.Kinds.{moveOf}
 use Rattle.actions.specs.Actions.{settingsIn, acted, opened}
 use Rattle.actions.proofs.Calls.{act-fits}
 use Rattle.actions.proofs.Openings as openings
-use Rattle.runs.specs.Runs.{moveAt, movesFrom, Went, wentFrom, stopped, wholeChecks, wholeWent}
+use Rattle.sequences.specs.Sequences.{moveAt, movesFrom, Went, wentFrom}
+use Rattle.runs.specs.Runs.{stopped, wholeChecks, wholeWent}
 use Rattle.runs.proofs.CallLaws.{number-15, number-16, whole-15, whole-16, whole-stops, whole-runs}
-use Rattle.runs.proofs.RunLaws.{move-at, moves-none, moves-next, went-none, went-next, went-stop}
+use Rattle.sequences.proofs.SequenceLaws.{move-at, moves-none, moves-next, went-none, went-next, went-stop}
 use Rattle.holds.specs.declared.Hold.{Hold}
 use Rattle.holds.specs.Holding.{newHold, Holding, refusing, opening, openedHold, took}
 use Rattle.printing.specs.Whole.{Taken, takenFrom, wholeTaken}

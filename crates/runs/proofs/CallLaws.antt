@@ -25,8 +25,9 @@ use Rattle.moves.proofs.StepLaws.{Fit}
 use Rattle.actions.specs.Actions.{opened}
 use Rattle.actions.proofs.Calls.{fit-shape, area-fails, area-passes, call-15, call-1, call-passes}
 use Rattle.actions.proofs.Openings.{open-3, opened-none, opened-fit}
-use Rattle.runs.specs.Runs.{Went, wentFrom, unbegun, stopped, runChecks, went, restOf, wholeChecks, afterOpening, wholeWent}
-use Rattle.runs.proofs.RunLaws.{record-good}
+use Rattle.sequences.specs.Sequences.{Went, wentFrom}
+use Rattle.runs.specs.Runs.{unbegun, stopped, runChecks, went, restOf, wholeChecks, afterOpening, wholeWent}
+use Rattle.sequences.proofs.SequenceLaws.{record-good}
 
 -- ---- a run
 

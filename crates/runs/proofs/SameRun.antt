@@ -1,5 +1,5 @@
 -- The run of the records is the run of the rules: as many steps, the same last number, and the same state; and what those steps are. Assumes nothing.
-use mathlib.Core.Path.{_≡_, refl, sym, ap, _∙_, subst}
+use mathlib.Core.Path.{_≡_, refl, sym, _∙_, subst}
 use mathlib.Core.Bool.{true}
 use mathlib.Core.Logic.{⊎-elim}
 use mathlib.Core.List.{List, _∷_}
@@ -24,9 +24,10 @@ use Rattle.moves.specs.Moves.{Outcome, stepAt, toldAt}
 use Rattle.moves.proofs.Steps.{step-refused}
 use Rattle.moves.proofs.StepLaws.{Fit, told-new, told-out, told-answer, step-fit, step-state}
 use Rattle.actions.proofs.Calls.{fit-shape}
-use Rattle.runs.specs.Runs.{moveAt, movesFrom, Went, wentFrom, went, stopped}
+use Rattle.sequences.specs.Sequences.{moveAt, movesFrom, Went, wentFrom}
+use Rattle.runs.specs.Runs.{went, stopped}
 use Rattle.runs.proofs.CallLaws.{run-0, run-16}
-use Rattle.runs.proofs.RunLaws.{went-none, went-next, went-stop}
+use Rattle.sequences.proofs.SequenceLaws.{went-none, went-next, went-stop}
 
 -- w, counted from record k on and with so many new before, is the rules' run r, and leaves a floor that a step may be made on
 pub record Same (k total : ℕ) (w : Went) (r : Run) : Type 0 where

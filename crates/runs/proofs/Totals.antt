@@ -24,7 +24,8 @@ use Rattle.moves.proofs.StepLaws.{Fit}
 use Rattle.actions.specs.Actions.{settingsIn, opened}
 use Rattle.actions.proofs.Calls.{call-either}
 use Rattle.actions.proofs.Openings.{opened-state, opened-fit}
-use Rattle.runs.specs.Runs.{movesFrom, Went, wentFrom, went, stopped, wholeWent}
+use Rattle.sequences.specs.Sequences.{movesFrom, Went, wentFrom}
+use Rattle.runs.specs.Runs.{went, stopped, wholeWent}
 use Rattle.runs.proofs.CallLaws.{run-15, run-1, whole-either}
 use Rattle.runs.proofs.SameRun.{Same, all-same, went-same, went-ragged}
 

@@ -27,7 +27,8 @@ use Rattle.kinds.specs.Kinds.{moveOf}
 use Rattle.actions.specs.Actions.{opened, settingsIn, acted}
 use Rattle.actions.proofs.Calls.{act-next}
 use Rattle.actions.proofs.Openings.{opened-state, opened-fit, limits}
-use Rattle.runs.specs.Runs.{movesFrom, Went, wentFrom, went, unbegun, wholeWent}
+use Rattle.sequences.specs.Sequences.{movesFrom, Went, wentFrom}
+use Rattle.runs.specs.Runs.{went, unbegun, wholeWent}
 use Rattle.runs.specs.Calls.{Call, one, many, leaves, movesOf, leftBy, allMoves}
 use Rattle.runs.proofs.CallLaws.{whole-either}
 use Rattle.runs.proofs.SameRun.{Same, all-same, went-same, went-ragged, run-state}

@@ -7,7 +7,8 @@ use Rattle.floors.specs.declared.Floor.{Floor}
 use Rattle.moves.specs.Moves.{Outcome}
 use Rattle.kinds.specs.Kinds.{moveOf}
 use Rattle.actions.specs.Actions.{acted}
-use Rattle.runs.specs.Runs.{movesFrom, went}
+use Rattle.sequences.specs.Sequences.{movesFrom}
+use Rattle.runs.specs.Runs.{went}
 
 pub data Call : Type 0 where
   one : Action → Call

@@ -2,123 +2,13 @@
 // sequence, which opens its floor itself.
 use floors::Floor;
 use floors::Settings;
-use moves::head::Head;
-use moves::head::answered;
+use sequences::Ran;
+use sequences::run_records;
 use shapes::floor_in_shape;
 ghost use mathlib.Core.Path.{_≡_};
-ghost use mathlib.Core.Bool.{true};
-ghost use Prim.Native.Nat.{_≤_, _+_, _*_, min};
-ghost use lib.ListN.{length};
-ghost use Rattle.rules.specs.Rules.{mostNotes};
+ghost use Prim.Native.Nat.{_+_, min};
 ghost use Rattle.rules.specs.NewSources.{sizes};
-ghost use Rattle.records.specs.Records.{actionOf};
-ghost use Rattle.shapes.specs.Shape.{inShapeAt};
-ghost use Rattle.moves.specs.Moves.{Ready, held, left, toldAt};
-ghost use Rattle.kinds.specs.Kinds.{moveOf};
-ghost use Rattle.runs.specs.Runs.{wentFrom, went, restOf, wholeWent};
-
-// How many records were carried out and how many of them added a source, the last number, and the floor.
-pub struct Ran {
-    pub count: usize,
-    pub total: usize,
-    pub answer: u8,
-    pub floor: Floor,
-}
-
-// One record on a floor that is taken apart.
-fn step_record(
-    settings: Settings,
-    head: Head,
-    bytes: &[u8],
-    faulty: &mut [bool; 16],
-    pass: &mut [u32; 16],
-    accept: &mut [u32; 16],
-    listed: &mut [u64; 16],
-    sent: &mut [u64; 16],
-    received: &mut [u16; 1024],
-    area: &mut [u64],
-) -> Head
-    requires { ⌜ Ready settings head (length (now area)) × (length (now bytes) ≡ 16) ⌝ }
-    ensures { λ r. ⌜ left settings r (now (faulty .exit)) (now (pass .exit)) (now (accept .exit)) (now (listed .exit)) (now (sent .exit)) (now (received .exit)) (now (area .exit))
-        ≡ toldAt (held settings head (now (faulty .entry)) (now (pass .entry)) (now (accept .entry)) (now (listed .entry)) (now (sent .entry)) (now (received .entry))) (now (area .entry)) (moveOf (actionOf (now (bytes .entry)))) ⌝ }
-{
-    let reading = records::read(bytes);
-    if reading.answer != 0 {
-        return answered(3, head);
-    }
-    let action = reading.action;
-    kinds::step(
-        settings,
-        head,
-        action,
-        faulty,
-        pass,
-        accept,
-        listed,
-        sent,
-        received,
-        area,
-    )
-}
-
-// At most `limit` records of the sequence, up to the first that is refused. The floor is taken apart once for all of them.
-fn run_records(floor: Floor, area: &mut [u64], sequence: &[u8], limit: usize) -> Ran
-    requires { ⌜ (inShapeAt floor (now area) ≡ true) × (length (now area) ≡ mostNotes) × (16 * limit ≤ length (now sequence)) ⌝ }
-    ensures { λ r. ⌜ record { count = r .count; total = r .total; out = record { answer = r .answer; floor = r .floor; area = now (area .exit) } } ≡ wentFrom limit floor (now (area .entry)) (now (sequence .entry)) 0 0 ⌝ }
-{
-    let settings = floor.settings;
-    let mut faulty = floor.faulty;
-    let mut pass = floor.pass;
-    let mut accept = floor.accept;
-    let mut listed = floor.listed;
-    let mut sent = floor.sent;
-    let mut received = floor.received;
-    let mut head = Head {
-        answer: 0,
-        new: false,
-        clock: floor.clock,
-        waiting: floor.waiting,
-    };
-    let mut count: usize = 0;
-    let mut total: usize = 0;
-    while count < limit {
-        let at = 16 * count;
-        let end = at + 16;
-        head = step_record(
-            settings,
-            head,
-            &sequence[at..end],
-            &mut faulty,
-            &mut pass,
-            &mut accept,
-            &mut listed,
-            &mut sent,
-            &mut received,
-            area,
-        );
-        if head.answer != 0 {
-            break;
-        }
-        count += 1;
-        total += head.new as usize;
-    }
-    Ran {
-        count: count,
-        total: total,
-        answer: head.answer,
-        floor: Floor {
-            settings: settings,
-            clock: head.clock,
-            waiting: head.waiting,
-            faulty: faulty,
-            pass: pass,
-            accept: accept,
-            listed: listed,
-            sent: sent,
-            received: received,
-        },
-    }
-}
+ghost use Rattle.runs.specs.Runs.{went, restOf, wholeWent};
 
 fn least(a: usize, b: usize) -> usize
     ensures { λ r. ⌜ r ≡ min a b ⌝ }

@@ -1,7 +1,7 @@
 -- What a program in another language is told of a whole sequence. Assumes nothing.
 use mathlib.Core.List.{List}
 use Prim.Native.Nat.{ℕ}
-use Rattle.runs.specs.Runs.{Went}
+use Rattle.sequences.specs.Sequences.{Went}
 use Rattle.speed.specs.declared.Report.{Report}
 
 -- a report, and the area beside it

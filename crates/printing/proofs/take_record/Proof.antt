@@ -2,7 +2,7 @@
 use borrow.Author.Needs.{needs}
 use mathlib.Core.Path.{ap, _∙_}
 use native.Mathlib.Omega.{arith}
-use Rattle.runs.proofs.RunLaws.{record-good, record-bad}
+use Rattle.sequences.proofs.SequenceLaws.{record-good, record-bad}
 use Rattle.holds.specs.Holding.{took}
 use Rattle.holds.proofs.HoldLaws.{took-unknown}
 use Rattle.printing.proofs.WholeLaws.{no-action}

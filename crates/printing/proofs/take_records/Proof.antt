@@ -3,7 +3,7 @@ use mathlib.Core.Path.{_≡_, refl}
 use Prim.Native.Nat.{_-_}
 use native.Mathlib.Omega.{arith}
 use lib.ListN.{length}
-use Rattle.runs.proofs.RunLaws.{part-is, part-long}
+use Rattle.sequences.proofs.SequenceLaws.{part-is, part-long}
 use Rattle.printing.specs.Whole.{takenFrom}
 use Rattle.printing.proofs.WholeLaws.{Going, going-start, going-end, going-next, going-stop}
 use Rattle.printing.proofs.take_records.Statement.{statement}

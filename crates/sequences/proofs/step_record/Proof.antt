@@ -1,9 +1,9 @@
--- `runs::step_record` meets its contract. Assumes nothing.
+-- `sequences::step_record` meets its contract. Assumes nothing.
 use Rattle.kinds.proofs.KindLaws.{by-move, no-kind}
-use Rattle.runs.proofs.RunLaws.{record-good, record-bad, by-record}
+use Rattle.sequences.proofs.SequenceLaws.{record-good, record-bad, by-record}
 use borrow.Author.Needs.{needs}
-use Rattle.runs.proofs.step_record.Statement.{statement}
-use Rattle.runs.proofs.step_record.Tie as tie
+use Rattle.sequences.proofs.step_record.Statement.{statement}
+use Rattle.sequences.proofs.step_record.Tie as tie
 
 read-requires : tie.Need-read-requires
 read-requires c κs = search needs

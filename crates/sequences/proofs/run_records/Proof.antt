@@ -1,4 +1,4 @@
--- `runs::run_records` meets its contract. The invariant: the run from what the arrays hold is what is left of the run. Assumes nothing.
+-- `sequences::run_records` meets its contract. The invariant: the run from what the arrays hold is what is left of the run. Assumes nothing.
 use mathlib.Core.Path.{sym, _∙_}
 use Prim.Native.Nat.{_-_}
 use native.Mathlib.Omega.{arith}
@@ -6,11 +6,11 @@ use borrow.Author.Needs.{needs}
 use Rattle.sets.proofs.CountLaws.{bit-le}
 use Rattle.floors.specs.Bridge.{Sized}
 use Rattle.moves.specs.Moves.{held}
-use Rattle.runs.specs.Runs.{wentFrom}
+use Rattle.sequences.specs.Sequences.{wentFrom}
 use Rattle.actions.proofs.Calls.{fit-start}
-use Rattle.runs.proofs.RunLaws.{Going, going-start, going-ready, going-end, going-next, going-stop, going-long, part-is, part-long}
-use Rattle.runs.proofs.run_records.Statement.{statement}
-use Rattle.runs.proofs.run_records.Tie as tie
+use Rattle.sequences.proofs.SequenceLaws.{Going, going-start, going-ready, going-end, going-next, going-stop, going-long, part-is, part-long}
+use Rattle.sequences.proofs.run_records.Statement.{statement}
+use Rattle.sequences.proofs.run_records.Tie as tie
 
 abbrev Inv-loop : tie.InvT-loop
 Inv-loop area₀ sequence limit settings faulty₀ pass₀ accept₀ listed₀ sent₀ received₀ head₀ count₀ total₀ area faulty pass accept listed sent received head count total =

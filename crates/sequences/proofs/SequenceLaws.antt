@@ -25,7 +25,7 @@ use Rattle.moves.specs.declared.head.Head.{Head}
 use Rattle.moves.specs.Moves.{Outcome, stepAt, Told, toldAt, held, left, Ready}
 use Rattle.moves.proofs.StepLaws.{Fit, fit-ready, told-out, step-answer, step-fit, step-long}
 use Rattle.kinds.specs.Kinds.{moveOf}
-use Rattle.runs.specs.Runs.{moveAt, movesFrom, Went, wentFrom}
+use Rattle.sequences.specs.Sequences.{moveAt, movesFrom, Went, wentFrom}
 
 -- ---- a record that was read
 
