@@ -63,13 +63,13 @@ fn late_timer() -> Hold {
 
 fn with_hold(name: &[u8], hold: Hold, entry: u8) {
     let area = [0u64; 2048];
-    let answer = holds::may_print(hold, &area, EntryNo(entry));
+    let answer = prints::may_print(hold, &area, EntryNo(entry));
     line(name, answer as u64);
 }
 
 fn with_short_area(name: &[u8], hold: Hold, entry: u8) {
     let area = [0u64; 2047];
-    let answer = holds::may_print(hold, &area, EntryNo(entry));
+    let answer = prints::may_print(hold, &area, EntryNo(entry));
     line(name, answer as u64);
 }
 
@@ -94,7 +94,7 @@ pub fn sticker_numbers() {
 // Gives the hold back, for the next print.
 fn print_of(name: &[u8], hold: Hold, entry: u8) -> Hold {
     let area = [0u64; 2048];
-    let held = holds::print(hold, &area, EntryNo(entry));
+    let held = prints::print(hold, &area, EntryNo(entry));
     let after = held.hold;
     line(name, held.answer as u64);
     line(b"printed", after.printed.0);

@@ -13,7 +13,8 @@ use Rattle.lines.proofs.PutLaws.{puts-nothing, puts-then, puts-within, puts-nex
 use Rattle.noting.specs.Entry.{begun, waitOver}
 use Rattle.noting.proofs.EntryLaws.{over-by}
 use Rattle.holds.specs.declared.Hold.{Hold}
-use Rattle.holds.specs.Holding.{notedAt, begunAt, mayPrint}
+use Rattle.holds.specs.Holding.{notedAt, begunAt}
+use Rattle.prints.specs.Prints.{mayPrint}
 use Rattle.hold.specs.Text.{
   entryWord,
   notedWord,

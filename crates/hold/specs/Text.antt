@@ -6,7 +6,8 @@ use lib.Dec.{eqb}
 use Rattle.floors.specs.declared.Settings.{Settings}
 use Rattle.lines.specs.Lines.{fieldText, lineEnd, headingText}
 use Rattle.holds.specs.declared.Hold.{Hold}
-use Rattle.holds.specs.Holding.{notedAt, begunAt, mayPrint}
+use Rattle.holds.specs.Holding.{notedAt, begunAt}
+use Rattle.prints.specs.Prints.{mayPrint}
 
 -- The words, as bytes of ASCII.
 -- "entry "

@@ -2,12 +2,13 @@
 // `lines` do.
 use floors::Settings;
 use holds::Hold;
-use holds::may_print;
 use lines::either;
 use lines::field;
 use lines::heading;
 use lines::word;
 use noting::has_begun;
+use prints::may_print;
+use prints::may_print;
 use sets::DeskSet;
 use sets::EntryNo;
 ghost use mathlib.Core.Path.{_≡_};

@@ -1,15 +1,15 @@
 -- T-02, 'Hold the printer': the hold, and its calls. Assumes nothing.
 use mathlib.Core.Bool.{Bool, not, cond, _&&_}
-use mathlib.Core.List.{List, [], _∷_, _++_}
+use mathlib.Core.List.{List, [], _∷_}
 use Prim.Native.Nat.{ℕ}
-use lib.Dec.{eqb, ltb}
+use lib.Dec.{eqb}
 use lib.ListN.{getD, set, replicate}
 use Rattle.sets.specs.Sets.{member, insertBelow}
 use Rattle.rules.specs.Rules.{Check, _when_, firstOf, everyBelow}
 use Rattle.records.specs.declared.Action.{Action}
 use Rattle.floors.specs.declared.Floor.{Floor}
 use Rattle.moves.specs.Moves.{Outcome}
-use Rattle.actions.specs.Actions.{wrongArea, callChecks, acted, opened}
+use Rattle.actions.specs.Actions.{wrongArea, acted, opened}
 use Rattle.noting.specs.Entry.{begun, clockNoted, waitOver, entryInShape}
 use Rattle.holds.specs.declared.Hold.{Hold}
 
@@ -48,9 +48,6 @@ announcing h fl i e =
       noted = set (h .noted) e (clockNoted (h .floor .settings .f) (announcersAt h e) after (h .floor .clock) (notedAt h e));
       printed = h .printed;
     }
-
-abbrev pub withPrinted : Hold → ℕ → Hold
-withPrinted h e = record { floor = h .floor; announcers = h .announcers; noted = h .noted; printed = record { 0 = insertBelow 64 (h .printed .0) e } }
 
 -- ---- in shape: what every action and every print keeps
 
@@ -97,23 +94,3 @@ unfoldable pub took : Hold → List ℕ → Action → Holding
 took h area x =
     let number = firstOf (wrongArea area ∷ notedOutOfShape h ∷ []) in
     cond (eqb number 0) (taking h x (acted (h .floor) area x .out)) (refusing number h area)
-
--- "Refusals: 17 wait not over or not begun, 18 already printed, checked in this order after 5"
-unfoldable pub printChecks : Hold → List ℕ → ℕ → List Check
-printChecks h area e =
-    callChecks (h .floor) area
-    ++ notedOutOfShape h
-    ∷ 5 when not (ltb e (h .floor .settings .u))
-    ∷ 17 when not (waitOverAt h e)
-    ∷ 18 when isPrinted h e
-    ∷ []
-
--- WHETHER A STICKER MAY BE PRINTED: 0, or the number with which the print is refused
-unfoldable pub mayPrint : Hold → List ℕ → ℕ → ℕ
-mayPrint h area e = firstOf (printChecks h area e)
-
--- A PRINT
-unfoldable pub printed : Hold → List ℕ → ℕ → Holding
-printed h area e =
-    let number = mayPrint h area e in
-    cond (eqb number 0) (record { answer = 0; hold = withPrinted h e; area = area }) (refusing number h area)

@@ -1,30 +1,20 @@
-// The hold on the printers: beside a floor it notes, for each entry, who has announced it and when the wait began, and
-// it lets a sticker be printed once, when the wait is over. It rests on what the library promises of its calls.
+// The hold on the printers: beside a floor it notes, for each entry, who has announced it and when the wait began. It
+// rests on what the library promises of its calls.
 pub mod shape;
 
 use actions::act;
 use floors::Floor;
 use floors::Settings;
 use noting::clock_noted;
-use noting::wait_over;
 use records::Action;
 use sets::DeskNo;
 use sets::DeskSet;
 use sets::EntryNo;
 use sets::EntrySet;
-use shapes::floor_in_shape;
 ghost use mathlib.Core.Path.{_≡_};
 ghost use Prim.Native.Nat.{_<_};
 ghost use Rattle.floors.specs.Bridge.{noFloor};
-ghost use Rattle.holds.specs.Holding.{
-  newHold,
-  withFloor,
-  announcing,
-  openedHold,
-  took,
-  mayPrint,
-  printed,
-};
+ghost use Rattle.holds.specs.Holding.{newHold, withFloor, announcing, openedHold, took};
 
 // `announcers` has a set of desks for each entry, and `noted` the clock at which its wait began: 0 while it has not.
 pub struct Hold {
@@ -136,58 +126,5 @@ pub fn take(hold: Hold, area: &mut [u64], action: Action) -> Held
     Held {
         answer: acted.answer,
         hold: hold.announced(floor, action.desk, action.entry),
-    }
-}
-
-// Whether the sticker of an entry may be printed now: 0, or the number with which the print is refused.
-pub fn may_print(hold: Hold, area: &[u64], entry: EntryNo) -> u8
-    ensures { λ r. ⌜ r ≡ mayPrint hold (now (area .entry)) (entry .0) ⌝ }
-{
-    let floor = hold.floor;
-    if area.len() != Settings::NOTES {
-        return 15;
-    }
-    if !floor_in_shape(floor, area) {
-        return 1;
-    }
-    if !hold.noted_in_shape() {
-        return 1;
-    }
-    if floor.settings.u <= entry.0 {
-        return 5;
-    }
-    let at = entry.0 as usize;
-    let over = wait_over(
-        floor.settings,
-        floor.clock,
-        DeskSet(hold.announcers[at]),
-        hold.noted[at],
-    );
-    if !over {
-        return 17;
-    }
-    if hold.printed.has(entry) {
-        return 18;
-    }
-    0
-}
-
-// Prints the sticker of an entry, once.
-pub fn print(hold: Hold, area: &[u64], entry: EntryNo) -> Held
-    ensures { λ r. ⌜ record { answer = r .answer; hold = r .hold; area = now (area .entry) } ≡ printed hold (now (area .entry)) (entry .0) ⌝ }
-{
-    let answer = may_print(hold, area, entry);
-    if answer != 0 {
-        return Held {
-            answer: answer,
-            hold: hold,
-        };
-    }
-    let printed = hold.printed;
-    let mut after = hold;
-    after.printed = printed.with(entry);
-    Held {
-        answer: 0,
-        hold: after,
     }
 }

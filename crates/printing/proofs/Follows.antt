@@ -30,9 +30,11 @@ use Rattle.actions.proofs.Calls.{act-next}
 use Rattle.actions.proofs.Openings.{opened-state, opened-fit}
 use Rattle.holds.specs.declared.Hold.{Hold}
 use Rattle.noting.specs.Entry.{begun, clockNoted}
-use Rattle.holds.specs.Holding.{announcersAt, notedAt, begunAt, isPrinted, waitOverAt, withFloor, announcing, withPrinted, notedInShape, Holding, openedHold, took, printed}
+use Rattle.holds.specs.Holding.{announcersAt, notedAt, begunAt, isPrinted, waitOverAt, withFloor, announcing, notedInShape, Holding, openedHold, took}
+use Rattle.prints.specs.Prints.{withPrinted, printed}
 use Rattle.noting.proofs.EntryLaws.{noted-again}
-use Rattle.holds.proofs.HoldLaws.{opened-hold, announced-below, took-acted, printed-either}
+use Rattle.holds.proofs.HoldLaws.{opened-hold, announced-below, took-acted}
+use Rattle.prints.proofs.PrintLaws.{printed-either}
 use Rattle.printing.proofs.ActionLaws.{settings-stay, clock-on, marks-stay, announcer-below, mark-set, announces-own, announces-no-other, announces-none}
 use Rattle.noting.proofs.Noting.{one-more, Noting, noting-none, noting-other, noting-announced}
 use Rattle.noting.proofs.ShapeKept.{EntryShape, more-begun, later-shape, announced-shape, printed-shape}

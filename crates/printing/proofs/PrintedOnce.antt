@@ -15,9 +15,11 @@ use Rattle.sets.proofs.CountLaws.{bit-le}
 use Rattle.sets.proofs.MemberLaws.{insert-same, insert-other, insertBelow-low}
 use Rattle.records.specs.declared.Action.{Action}
 use Rattle.holds.specs.declared.Hold.{Hold}
-use Rattle.holds.specs.Holding.{isPrinted, withPrinted, Holding, refusing, openedHold, took}
+use Rattle.holds.specs.Holding.{isPrinted, Holding, refusing, openedHold, took}
+use Rattle.prints.specs.Prints.{withPrinted}
 use Rattle.printing.specs.Steps.{Step, action, print, stepped, isPrintOf, timesPrinted}
-use Rattle.holds.proofs.HoldLaws.{took-printed, printed-either}
+use Rattle.holds.proofs.HoldLaws.{took-printed}
+use Rattle.prints.proofs.PrintLaws.{printed-either}
 
 -- the mark of entry e, where entry c is printed
 module _ (h : Hold) (c : ℕ) (below : c < 64) (e : ℕ) where

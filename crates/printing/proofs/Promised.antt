@@ -23,12 +23,14 @@ use Rattle.actions.proofs.Calls.{fit-shape, act-answer}
 use Rattle.actions.proofs.Openings as openings
 use Rattle.holds.specs.declared.Hold.{Hold}
 use Rattle.noting.specs.Entry.{begun}
-use Rattle.holds.specs.Holding.{announcersAt, notedAt, begunAt, waitOverAt, isPrinted, notedInShape, Holding, openedHold, took, mayPrint, printed}
+use Rattle.holds.specs.Holding.{announcersAt, notedAt, begunAt, waitOverAt, isPrinted, notedInShape, Holding, openedHold, took}
+use Rattle.prints.specs.Prints.{mayPrint, printed}
 use Rattle.printing.specs.Steps.{Step, action, print, stepped, leftBy, movesOf}
 use Rattle.noting.specs.FirstClock.{FirstBy}
 use Rattle.printing.specs.Promise.{WaitIsOver, Promised}
 use Rattle.noting.proofs.EntryLaws.{over-parts, parts-over}
-use Rattle.holds.proofs.HoldLaws.{took-acted, may-5, may-17, may-18, may-0, may-parts, print-answer, printed-noted}
+use Rattle.holds.proofs.HoldLaws.{took-acted}
+use Rattle.prints.proofs.PrintLaws.{may-5, may-17, may-18, may-0, may-parts, print-answer, printed-noted}
 use Rattle.noting.proofs.Noting.{announced-begun}
 use Rattle.printing.proofs.Follows.{Follows, opened-with, took-follows, took-noted, printed-follows, opened-follows}
 

@@ -11,7 +11,8 @@ use Rattle.floors.specs.Bridge.{stateOf}
 use Rattle.kinds.specs.Kinds.{moveOf}
 use Rattle.noting.specs.FirstClock.{FirstBy}
 use Rattle.holds.specs.declared.Hold.{Hold}
-use Rattle.holds.specs.Holding.{notedAt, begunAt, isPrinted, took, mayPrint, printed}
+use Rattle.holds.specs.Holding.{notedAt, begunAt, isPrinted, took}
+use Rattle.prints.specs.Prints.{mayPrint, printed}
 
 -- by some clock they have, and the state is later than that by more than the wait
 abbrev pub WaitIsOver : Settings → ℕ → List Move → Type 0

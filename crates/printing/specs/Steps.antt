@@ -8,7 +8,8 @@ use Rattle.rules.specs.Rules.{Move}
 use Rattle.records.specs.declared.Action.{Action}
 use Rattle.kinds.specs.Kinds.{moveOf}
 use Rattle.holds.specs.declared.Hold.{Hold}
-use Rattle.holds.specs.Holding.{Holding, took, printed}
+use Rattle.holds.specs.Holding.{Holding, took}
+use Rattle.prints.specs.Prints.{printed}
 
 pub data Step : Type 0 where
   action : Action → Step

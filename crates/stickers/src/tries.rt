@@ -1,8 +1,8 @@
 // The stickers that are tried after a record, each with its line.
 use crate::texts::print_line;
 use holds::Hold;
-use holds::may_print;
-use holds::print;
+use prints::may_print;
+use prints::print;
 use sets::EntryNo;
 ghost use Prim.Native.Nat.{_+_, _≤_, _<_};
 ghost use lib.ListN.{length};

@@ -1,8 +1,8 @@
--- `holds::print` meets its contract. Assumes nothing.
+-- `prints::print` meets its contract. Assumes nothing.
 use borrow.Author.Needs.{needs}
-use Rattle.holds.proofs.HoldLaws.{print-refused, print-marks}
-use Rattle.holds.proofs.print.Statement.{statement}
-use Rattle.holds.proofs.print.Tie as tie
+use Rattle.prints.proofs.PrintLaws.{print-refused, print-marks}
+use Rattle.prints.proofs.print.Statement.{statement}
+use Rattle.prints.proofs.print.Tie as tie
 
 may-print-requires : tie.Need-may-print-requires
 may-print-requires c κs = search needs

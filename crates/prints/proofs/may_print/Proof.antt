@@ -1,10 +1,10 @@
--- `holds::may_print` meets its contract. Assumes nothing.
+-- `prints::may_print` meets its contract. Assumes nothing.
 use Prim.Native.Nat.{_≤_}
 use borrow.Author.Needs.{needs}
 use native.Mathlib.Omega.{arith}
-use Rattle.holds.proofs.HoldLaws.{may-15, may-1, may-1′, below-64, may-5, may-17, may-18, may-0}
-use Rattle.holds.proofs.may_print.Statement.{statement}
-use Rattle.holds.proofs.may_print.Tie as tie
+use Rattle.prints.proofs.PrintLaws.{may-15, may-1, may-1′, below-64, may-5, may-17, may-18, may-0}
+use Rattle.prints.proofs.may_print.Statement.{statement}
+use Rattle.prints.proofs.may_print.Tie as tie
 
 -- the places before the wait is looked at, from the last on
 abbrev noted : tie.After-struct-known2 → tie.Else3
