@@ -8,7 +8,6 @@ use lines::heading;
 use lines::word;
 use noting::has_begun;
 use prints::may_print;
-use prints::may_print;
 use sets::DeskSet;
 use sets::EntryNo;
 ghost use mathlib.Core.Path.{_≡_};

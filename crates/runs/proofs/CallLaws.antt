@@ -12,12 +12,13 @@ use lib.Seq.{take-all, drop-length}
 use borrow.Author.Tests.{eq-eqb, ne-eqb, eqb-true, eqb-false, not-false}
 use Rattle.sets.proofs.Tests.{decided, or-none}
 use Rattle.rules.specs.Rules.{firstOf, _when_, mostNotes}
+use Rattle.rules.specs.Running.{run}
 use Rattle.rules.proofs.CheckLaws.{first-none, first-fails, first-passes}
 use Rattle.records.specs.Records.{wellFormed, actionOf, readOf, zeros}
 use Rattle.records.specs.declared.Action.{Action}
 use Rattle.records.specs.declared.Reading.{Reading}
 use Rattle.records.proofs.RecordLaws.{read-good, read-zeros}
-use Rattle.floors.specs.Bridge.{noFloor}
+use Rattle.floors.specs.Bridge.{stateOf, noFloor}
 use Rattle.floors.specs.declared.Floor.{Floor}
 use Rattle.shapes.specs.Shape.{inShapeAt}
 use Rattle.moves.specs.Moves.{Outcome, refusal}
@@ -25,9 +26,10 @@ use Rattle.moves.proofs.StepLaws.{Fit}
 use Rattle.actions.specs.Actions.{opened}
 use Rattle.actions.proofs.Calls.{fit-shape, area-fails, area-passes, call-15, call-1, call-passes}
 use Rattle.actions.proofs.Openings.{open-3, opened-none, opened-fit}
-use Rattle.sequences.specs.Sequences.{Went, wentFrom}
-use Rattle.runs.specs.Runs.{unbegun, stopped, runChecks, went, restOf, wholeChecks, afterOpening, wholeWent}
+use Rattle.sequences.specs.Sequences.{movesFrom, Went, wentFrom}
 use Rattle.sequences.proofs.SequenceLaws.{record-good}
+use Rattle.sequences.proofs.SameRun.{Same, run-same}
+use Rattle.runs.specs.Runs.{unbegun, stopped, runChecks, went, restOf, wholeChecks, afterOpening, wholeWent}
 
 -- ---- a run
 
@@ -58,6 +60,18 @@ module _ (fl : Floor) (area bytes : List ℕ) (most : ℕ) where
       run-0 h limit l r e =
           rw (eq-eqb (firstOf (runChecks fl area bytes)) 0 (shaped ∙ first-passes 16 (not (eqb (length bytes % 16) 0)) [] (ap not (eq-eqb (length bytes % 16) 0 h)) ∙ first-none))
           (e ∙ ap (λ (n : ℕ). wentFrom n fl area bytes 0 0) l)
+
+-- a run on a floor that a step may be made on is the run of the rules
+module _ (fl : Floor) (area bytes : List ℕ) (most : ℕ) (fit : Fit fl area) where
+  pub went-same : length bytes % 16 ≡ 0 → Same 0 0 (went fl area bytes most) (run most (stateOf fl area) (movesFrom bytes 0 (length bytes / 16)))
+  went-same even =
+      let shaped : inShapeAt fl area ≡ true = fit-shape fl area fit in
+      subst (λ (w : Went). Same 0 0 w (run most (stateOf fl area) (movesFrom bytes 0 (length bytes / 16))))
+      (run-0 fl area bytes most (fit .exact) true (sym shaped) refl even (min most (length bytes / 16)) refl _ refl)
+      (run-same bytes most (length bytes / 16) fl area 0 0 fit)
+
+  pub went-ragged : (length bytes % 16 ≡ 0 → ⊥) → stopped 16 fl area ≡ went fl area bytes most
+  went-ragged odd = run-16 fl area bytes most (fit .exact) true (sym (fit-shape fl area fit)) refl odd
 
 -- so many records are there
 pub limit-fits : (bytes : List ℕ) (limit most : ℕ) → limit ≡ min most (length bytes / 16) → 16 * limit ≤ length bytes

@@ -26,8 +26,8 @@ use Rattle.actions.proofs.Calls.{call-either}
 use Rattle.actions.proofs.Openings.{opened-state, opened-fit}
 use Rattle.sequences.specs.Sequences.{movesFrom, Went, wentFrom}
 use Rattle.runs.specs.Runs.{went, stopped, wholeWent}
-use Rattle.runs.proofs.CallLaws.{run-15, run-1, whole-either}
-use Rattle.runs.proofs.SameRun.{Same, all-same, went-same, went-ragged}
+use Rattle.sequences.proofs.SameRun.{Same, all-same}
+use Rattle.runs.proofs.CallLaws.{run-15, run-1, went-same, went-ragged, whole-either}
 
 -- w has added its total to the sets of before
 abbrev Added : List ℕ → Went → Type 0

@@ -30,8 +30,9 @@ use Rattle.actions.proofs.Openings.{opened-state, opened-fit, limits}
 use Rattle.sequences.specs.Sequences.{movesFrom, Went, wentFrom}
 use Rattle.runs.specs.Runs.{went, unbegun, wholeWent}
 use Rattle.runs.specs.Calls.{Call, one, many, leaves, movesOf, leftBy, allMoves}
-use Rattle.runs.proofs.CallLaws.{whole-either}
-use Rattle.runs.proofs.SameRun.{Same, all-same, went-same, went-ragged, run-state}
+use Rattle.sequences.proofs.SequenceLaws.{moves-none}
+use Rattle.sequences.proofs.SameRun.{Same, all-same, run-state}
+use Rattle.runs.proofs.CallLaws.{went-same, went-ragged, whole-either}
 
 abbrev stateIn : Outcome → State
 stateIn o = stateOf (o .floor) (o .area)
@@ -58,10 +59,9 @@ module _ (fl : Floor) (area : List ℕ) (fit : Fit fl area) where
       record { state = same .state ∙ run-state bytes most left 0 s ∙ ap (λ (n : ℕ). after next s (movesFrom bytes 0 n)) counted; fit = same .fit }
 
   many-leads : (bytes : List ℕ) (most : ℕ) → Leads s (movesFrom bytes 0 (went fl area bytes most .count)) (went fl area bytes most .out)
-  unfolding movesFrom
   many-leads bytes most =
       ⊎-elim (λ e. same-leads bytes most (length bytes / 16) (went fl area bytes most) (went-same fl area bytes most fit (eqb-true (length bytes % 16) 0 e)))
-      (λ e. subst (λ (w : Went). Leads s (movesFrom bytes 0 (w .count)) (w .out)) (went-ragged fl area bytes most fit (eqb-false (length bytes % 16) 0 e)) (record { state = sym (after-none s); fit = fit }))
+      (λ e. subst (λ (w : Went). Leads s (movesFrom bytes 0 (w .count)) (w .out)) (went-ragged fl area bytes most fit (eqb-false (length bytes % 16) 0 e)) (record { state = rw (moves-none bytes 0) (sym (after-none s)); fit = fit }))
       (decided (eqb (length bytes % 16) 0))
 
   call-leads : (c : Call) → Leads s (movesOf fl area c) (leaves fl area c)

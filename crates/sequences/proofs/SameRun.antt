@@ -1,13 +1,11 @@
 -- The run of the records is the run of the rules: as many steps, the same last number, and the same state; and what those steps are. Assumes nothing.
 use mathlib.Core.Path.{_≡_, refl, sym, _∙_, subst}
-use mathlib.Core.Bool.{true}
 use mathlib.Core.Logic.{⊎-elim}
 use mathlib.Core.List.{List, _∷_}
-use Prim.Native.Nat.{ℕ, zero, suc, _+_, _/_, _%_, min}
+use Prim.Native.Nat.{ℕ, zero, suc, _+_, min}
 use native.Mathlib.Numerals.{add-one}
 use native.Mathlib.Omega.{arith}
 use lib.Dec.{eqb}
-use lib.ListN.{length}
 use borrow.Author.Tests.{eqb-true, eqb-false}
 use Rattle.sets.specs.Counting.{bit}
 use Rattle.sets.proofs.Tests.{decided}
@@ -19,15 +17,11 @@ use Rattle.agreement.specs.View.{after}
 use Rattle.agreement.proofs.AfterLaws.{after-none, after-next}
 use Rattle.floors.specs.Bridge.{stateOf}
 use Rattle.floors.specs.declared.Floor.{Floor}
-use Rattle.shapes.specs.Shape.{inShapeAt}
 use Rattle.moves.specs.Moves.{Outcome, stepAt, toldAt}
 use Rattle.moves.proofs.Steps.{step-refused}
 use Rattle.moves.proofs.StepLaws.{Fit, told-new, told-out, told-answer, step-fit, step-state}
-use Rattle.actions.proofs.Calls.{fit-shape}
 use Rattle.sequences.specs.Sequences.{moveAt, movesFrom, Went, wentFrom}
-use Rattle.runs.specs.Runs.{went, stopped}
-use Rattle.runs.proofs.CallLaws.{run-0, run-16}
 use Rattle.sequences.proofs.SequenceLaws.{went-none, went-next, went-stop}
 
 -- w, counted from record k on and with so many new before, is the rules' run r, and leaves a floor that a step may be made on
 pub record Same (k total : ℕ) (w : Went) (r : Run) : Type 0 where
@@ -89,19 +83,6 @@ pub all-same : (bytes : List ℕ) (n : ℕ) (fl : Floor) (area : List ℕ) → F
 all-same bytes n fl area fit =
     let all : min n n ≡ n = omega arith in
     subst (λ (q : ℕ). Same 0 0 (wentFrom q fl area bytes 0 0) (run n (stateOf fl area) (movesFrom bytes 0 n))) all (run-same bytes n n fl area 0 0 fit)
-
--- ---- the run of a public call
-
-module _ (fl : Floor) (area bytes : List ℕ) (most : ℕ) (fit : Fit fl area) where
-  pub went-same : length bytes % 16 ≡ 0 → Same 0 0 (went fl area bytes most) (run most (stateOf fl area) (movesFrom bytes 0 (length bytes / 16)))
-  went-same even =
-      let shaped : inShapeAt fl area ≡ true = fit-shape fl area fit in
-      subst (λ (w : Went). Same 0 0 w (run most (stateOf fl area) (movesFrom bytes 0 (length bytes / 16))))
-      (run-0 fl area bytes most (fit .exact) true (sym shaped) refl even (min most (length bytes / 16)) refl _ refl)
-      (run-same bytes most (length bytes / 16) fl area 0 0 fit)
-
-  pub went-ragged : (length bytes % 16 ≡ 0 → ⊥) → stopped 16 fl area ≡ went fl area bytes most
-  went-ragged odd = run-16 fl area bytes most (fit .exact) true (sym (fit-shape fl area fit)) refl odd
 
 -- ---- the state that the rules' run leaves
 
