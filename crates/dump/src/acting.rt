@@ -2,8 +2,8 @@
 // and the new flag. A refused action changes nothing, and the next is tried on the same floor.
 use actions::Acted;
 use floors::Floor;
-use lines::field;
-use lines::word;
+use texts::field;
+use texts::word;
 ghost use Prim.Native.Nat.{_+_, _*_, _≤_};
 ghost use lib.ListN.{length};
 

@@ -4,9 +4,9 @@
 pub mod acting;
 
 use crate::acting::acts;
-use lines::field;
-use lines::word;
 use sequences::Ran;
+use texts::field;
+use texts::word;
 ghost use Prim.Native.Nat.{_+_, _*_, _≤_};
 ghost use lib.ListN.{length};
 

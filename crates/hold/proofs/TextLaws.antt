@@ -8,8 +8,8 @@ use native.Mathlib.Omega.{arith}
 use lib.Dec.{eqb, leb}
 use Rattle.sets.proofs.Tests.{was-true, was-false}
 use Rattle.floors.specs.declared.Settings.{Settings}
-use Rattle.lines.specs.Lines.{Puts, fieldText, lineEnd}
-use Rattle.lines.proofs.PutLaws.{puts-nothing, puts-then, puts-within, puts-next, puts-last}
+use Rattle.texts.specs.Texts.{Puts, lineEnd, fieldText}
+use Rattle.texts.proofs.PutLaws.{puts-nothing, puts-then, puts-within, puts-next, puts-last}
 use Rattle.noting.specs.Entry.{begun, waitOver}
 use Rattle.noting.proofs.EntryLaws.{over-by}
 use Rattle.holds.specs.declared.Hold.{Hold}

@@ -4,7 +4,8 @@ use mathlib.Core.List.{List, [], _∷_, _++_}
 use Prim.Native.Nat.{ℕ, zero, suc, _+_, _*_}
 use lib.Dec.{eqb}
 use Rattle.floors.specs.declared.Settings.{Settings}
-use Rattle.lines.specs.Lines.{fieldText, lineEnd, headingText}
+use Rattle.texts.specs.Texts.{lineEnd, fieldText}
+use Rattle.lines.specs.Lines.{headingText}
 use Rattle.holds.specs.declared.Hold.{Hold}
 use Rattle.holds.specs.Holding.{notedAt, begunAt}
 use Rattle.prints.specs.Prints.{mayPrint}

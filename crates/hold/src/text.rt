@@ -1,19 +1,19 @@
 // What `hold` prints. Each call puts its text into a lent place from `at` on and answers where it ends, as those of
-// `lines` do.
+// `texts` do.
 use floors::Settings;
 use holds::Hold;
-use lines::either;
-use lines::field;
 use lines::heading;
-use lines::word;
 use noting::has_begun;
 use prints::may_print;
 use sets::DeskSet;
 use sets::EntryNo;
+use texts::either;
+use texts::field;
+use texts::word;
 ghost use mathlib.Core.Path.{_≡_};
 ghost use Prim.Native.Nat.{_+_, _≤_, _<_};
 ghost use lib.ListN.{length};
-ghost use Rattle.lines.specs.Lines.{Puts};
+ghost use Rattle.texts.specs.Texts.{Puts};
 ghost use Rattle.hold.specs.Text.{firstClock, entryLine, entryText, entriesNoted, holdText};
 
 // The first clock at which the wait that began at this one is over. On a floor out of shape each may be any number.

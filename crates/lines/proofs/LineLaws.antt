@@ -5,28 +5,23 @@ use mathlib.Core.List.{List, [], _++_, append-nil}
 use Prim.Native.Nat.{ℕ, _+_, _*_, _≤_, min}
 use native.Mathlib.Omega.{arith}
 use lib.Dec.{eqb}
-use lib.ListN.{length, getD}
+use lib.ListN.{getD}
 use borrow.Author.Tests.{eq-eqb, ne-eqb}
 use Rattle.sets.specs.Sets.{member}
 use Rattle.sets.proofs.Tests.{cond-true, cond-false}
 use Rattle.floors.specs.declared.Floor.{Floor}
+use Rattle.texts.specs.Texts.{Puts, decimal, space, lineEnd, fieldText}
+use Rattle.texts.proofs.PutLaws.{puts-then, puts-within, puts-next, puts-last}
 use Rattle.lines.specs.Lines.{
-  Puts,
-  decimal,
-  fieldText,
-  space,
-  lineEnd,
   deskWord,
   faultyWord,
   goodWord,
   noneWord,
   entriesBelow,
   entriesText,
-  twoNumbers,
   deskLine,
   desksBelow,
 }
-use Rattle.lines.proofs.PutLaws.{puts-then, puts-within, puts-next, puts-last}
 
 module _ (set e : ℕ) {at end : ℕ} {before after : List ℕ} where
   pub puts-entry : {put : Bool} {next : ℕ} {middle : List ℕ} → put ≡ member set e → Puts (21 * e) before at (entriesBelow e set) middle next
@@ -45,12 +40,6 @@ module _ (set : ℕ) {at end : ℕ} {before after : List ℕ} where
   pub puts-some : (set ≡ 0 → ⊥) → Puts 1344 before at (entriesBelow 64 set) after end → Puts 1344 before at (entriesText set) after end
   unfolding entriesText
   puts-some h a = rw (cond-false (eqb set 0) noneWord (entriesBelow 64 set) (ne-eqb set 0 h)) a
-
-pub puts-two : (first second : List ℕ) (x y : ℕ) {at a b end : ℕ} {before one two after : List ℕ}
-    → Puts (length first + 20) before at (fieldText first x) one a → Puts (length second + 20) one a (fieldText second y) two b → Puts 1 two b lineEnd after end
-    → Puts (length first + length second + 41) before at (twoNumbers first x second y) after end
-unfolding twoNumbers
-puts-two first second x y p q r = puts-within (puts-then (puts-then p q) r) (omega arith)
 
 pub puts-desk : (number : ℕ) (faulty : Bool) (pass accept listed : ℕ) {at a b c d e end : ℕ} {before one two three four five after : List ℕ}
     → Puts 25 before at (fieldText deskWord number) one a → Puts 8 one a (cond faulty faultyWord goodWord) two b → Puts 20 two b (decimal pass) three c

@@ -1,36 +1,14 @@
 -- What the programs print, as lists of bytes. Assumes nothing.
-use mathlib.Core.Path.{_≡_}
 use mathlib.Core.Bool.{Bool, false, cond}
 use mathlib.Core.List.{List, [], _∷_, _++_}
-use Prim.Native.Nat.{ℕ, zero, suc, _+_, _/_, _%_, _≤_, min}
-use lib.Dec.{eqb, ltb}
-use lib.ListN.{length, getD}
-use lib.Seq.{sets}
+use Prim.Native.Nat.{ℕ, zero, suc, min}
+use lib.Dec.{eqb}
+use lib.ListN.{getD}
 use Rattle.sets.specs.Sets.{member}
 use Rattle.floors.specs.declared.Floor.{Floor}
-
--- A text put into a place from `at` on: all that the place then has, where the text ends, and how many bytes it takes at most.
-pub record Puts (most : ℕ) (before : List ℕ) (at : ℕ) (text after : List ℕ) (end : ℕ) : Type 0 where
-  pub stands : after ≡ sets before at text
-  pub ends : end ≡ at + length text
-  pub within : end ≤ at + most
-
--- the digits of a number, the first k rounds of division by ten
-unfoldable pub digitsIn : ℕ → ℕ → List ℕ
-digitsIn zero n = []
-digitsIn (suc k) n = cond (ltb n 10) ((48 + n) ∷ []) (digitsIn k (n / 10) ++ ((48 + n % 10) ∷ []))
-
--- a number in decimal digits, with no zero in front
-unfoldable pub decimal : ℕ → List ℕ
-decimal n = digitsIn (suc n) n
+use Rattle.texts.specs.Texts.{decimal, space, lineEnd, fieldText, twoNumbers}
 
 -- The words, as bytes of ASCII.
-abbrev pub space : List ℕ
-space = 32 ∷ []
-
-abbrev pub lineEnd : List ℕ
-lineEnd = 10 ∷ []
-
 -- "ran "
 abbrev pub ranWord : List ℕ
 ranWord = 114 ∷ 97 ∷ 110 ∷ 32 ∷ []
@@ -63,10 +41,6 @@ goodWord = 32 ∷ 103 ∷ 111 ∷ 111 ∷ 100 ∷ 32 ∷ []
 abbrev pub noneWord : List ℕ
 noneWord = 32 ∷ 45 ∷ []
 
--- a number with a word before it
-abbrev pub fieldText : List ℕ → ℕ → List ℕ
-fieldText before n = before ++ decimal n
-
 -- the entries below k in a set, rising, each with a space in front
 unfoldable pub entriesBelow : ℕ → ℕ → List ℕ
 entriesBelow zero set = []
@@ -75,10 +49,6 @@ entriesBelow (suc k) set = entriesBelow k set ++ cond (member set k) (fieldText 
 -- the entries of a list, or `-`
 unfoldable pub entriesText : ℕ → List ℕ
 entriesText set = cond (eqb set 0) noneWord (entriesBelow 64 set)
-
--- a line of two numbers with a word before each
-unfoldable pub twoNumbers : List ℕ → ℕ → List ℕ → ℕ → List ℕ
-twoNumbers first x second y = fieldText first x ++ fieldText second y ++ lineEnd
 
 unfoldable pub deskLine : ℕ → Bool → ℕ → ℕ → ℕ → List ℕ
 deskLine number faulty pass accept listed =

@@ -2,12 +2,12 @@
 // and tries stickers after each. Prints what is answered each time, and at the end what is noted.
 pub mod noted;
 pub mod taking;
-pub mod texts;
+pub mod text;
 pub mod tries;
 
 use crate::noted::all_noted;
 use crate::taking::take_each;
-use crate::texts::open_line;
+use crate::text::open_line;
 use holds::Hold;
 use holds::open;
 ghost use Prim.Native.Nat.{_*_, _≤_};

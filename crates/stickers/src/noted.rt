@@ -1,5 +1,5 @@
 // What is noted of the entries that were announced.
-use crate::texts::noted_line;
+use crate::text::noted_line;
 use holds::Hold;
 use sets::EntryNo;
 ghost use Prim.Native.Nat.{_+_, _≤_, _<_};

@@ -1,5 +1,5 @@
 // The records after the opening, taken one after another: a refusal does not end it.
-use crate::texts::take_line;
+use crate::text::take_line;
 use crate::tries::try_after;
 use holds::Held;
 use holds::Hold;

@@ -1,5 +1,5 @@
 // The stickers that are tried after a record, each with its line.
-use crate::texts::print_line;
+use crate::text::print_line;
 use holds::Hold;
 use prints::may_print;
 use prints::print;

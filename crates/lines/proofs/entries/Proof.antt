@@ -4,8 +4,9 @@ use Prim.Native.Nat.{_-_, _*_, _≤_}
 use native.Mathlib.Omega.{arith}
 use lib.ListN.{length}
 use borrow.Author.Needs.{needs}
-use Rattle.lines.specs.Lines.{Puts, entriesBelow}
-use Rattle.lines.proofs.PutLaws.{puts-nothing}
+use Rattle.texts.specs.Texts.{Puts}
+use Rattle.texts.proofs.PutLaws.{puts-nothing}
+use Rattle.lines.specs.Lines.{entriesBelow}
 use Rattle.lines.proofs.LineLaws.{puts-entry, puts-entries}
 use Rattle.lines.proofs.entries.Statement.{statement}
 use Rattle.lines.proofs.entries.Tie as tie

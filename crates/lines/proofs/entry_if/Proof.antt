@@ -1,7 +1,7 @@
 -- `lines::entry_if` meets its contract. Assumes nothing.
 use native.Mathlib.Omega.{arith}
 use borrow.Author.Needs.{needs}
-use Rattle.lines.proofs.PutLaws.{puts-nothing, puts-within}
+use Rattle.texts.proofs.PutLaws.{puts-nothing, puts-within}
 use Rattle.lines.proofs.entry_if.Statement.{statement}
 use Rattle.lines.proofs.entry_if.Tie as tie
 

@@ -1,7 +1,7 @@
 -- `lines::outcome` meets its contract. Assumes nothing.
 use borrow.Author.Needs.{needs}
+use Rattle.texts.proofs.PutLaws.{puts-then}
 use Rattle.lines.specs.Lines.{outcomeText}
-use Rattle.lines.proofs.PutLaws.{puts-then}
 use Rattle.lines.proofs.outcome.Statement.{statement}
 use Rattle.lines.proofs.outcome.Tie as tie
 

@@ -4,8 +4,8 @@ use Prim.Native.Nat.{_-_, _*_, _≤_}
 use native.Mathlib.Omega.{arith}
 use lib.ListN.{length}
 use borrow.Author.Needs.{needs}
-use Rattle.lines.specs.Lines.{Puts}
-use Rattle.lines.proofs.PutLaws.{puts-nothing}
+use Rattle.texts.specs.Texts.{Puts}
+use Rattle.texts.proofs.PutLaws.{puts-nothing}
 use Rattle.hold.specs.Text.{entriesNoted}
 use Rattle.hold.proofs.TextLaws.{puts-next-entry, puts-entries}
 use Rattle.hold.proofs.text.entries.Statement.{statement}

@@ -1,9 +1,9 @@
--- `lines::number` meets its contract. Assumes nothing.
+-- `texts::number` meets its contract. Assumes nothing.
 use native.Mathlib.Omega.{arith}
 use borrow.Author.Needs.{needs}
-use Rattle.lines.proofs.PutLaws.{decimal-short, puts-within}
-use Rattle.lines.proofs.number.Statement.{statement}
-use Rattle.lines.proofs.number.Tie as tie
+use Rattle.texts.proofs.PutLaws.{decimal-short, puts-within}
+use Rattle.texts.proofs.number.Statement.{statement}
+use Rattle.texts.proofs.number.Tie as tie
 
 digits-requires : tie.Need-digits-requires
 digits-requires c κs = omega (arith, decimal-short _ (c .before .before .fits .n .fits))

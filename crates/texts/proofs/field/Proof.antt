@@ -1,8 +1,8 @@
--- `lines::field` meets its contract. Assumes nothing.
+-- `texts::field` meets its contract. Assumes nothing.
 use borrow.Author.Needs.{needs}
-use Rattle.lines.proofs.PutLaws.{puts-then}
-use Rattle.lines.proofs.field.Statement.{statement}
-use Rattle.lines.proofs.field.Tie as tie
+use Rattle.texts.proofs.PutLaws.{puts-then}
+use Rattle.texts.proofs.field.Statement.{statement}
+use Rattle.texts.proofs.field.Tie as tie
 
 word-requires : tie.Need-word-requires
 word-requires c κs = search needs

@@ -1,8 +1,8 @@
--- `lines::two_numbers` meets its contract. Assumes nothing.
+-- `texts::two_numbers` meets its contract. Assumes nothing.
 use borrow.Author.Needs.{needs}
-use Rattle.lines.proofs.LineLaws.{puts-two}
-use Rattle.lines.proofs.two_numbers.Statement.{statement}
-use Rattle.lines.proofs.two_numbers.Tie as tie
+use Rattle.texts.proofs.PutLaws.{puts-two}
+use Rattle.texts.proofs.two_numbers.Statement.{statement}
+use Rattle.texts.proofs.two_numbers.Tie as tie
 
 field-requires : tie.Need-field-requires
 field-requires c κs = search needs

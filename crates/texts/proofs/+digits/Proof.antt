@@ -1,15 +1,15 @@
--- `lines::digits` meets its contract. The measure is the number: a call of itself is for its tenth. Assumes nothing.
+-- `texts::digits` meets its contract. The measure is the number: a call of itself is for its tenth. Assumes nothing.
 use Prim.Native.Nat.{ℕ, _<_}
 use native.Mathlib.Omega.{arith}
 use borrow.Author.Needs.{needs}
 use borrow.Fn.PlainCycle.{Measures, is, falls, and}
 use borrow.Fn.Kinds.{In}
-use Rattle.lines.proofs.PutLaws.{decimal-one, decimal-longer, puts-digit, puts-digits}
-use Rattle.lines.proofs.digits.Reads as digits
-use Rattle.lines.proofs.digits.Kinds as digits-kinds
-use Rattle.lines.proofs.+digits.Lts-digits as digits-lts
-use Rattle.lines.proofs.+digits.{statement}
-use Rattle.lines.proofs.+digits.Tie.{close}
+use Rattle.texts.proofs.PutLaws.{decimal-one, decimal-longer, puts-digit, puts-digits}
+use Rattle.texts.proofs.digits.Reads as digits
+use Rattle.texts.proofs.digits.Kinds as digits-kinds
+use Rattle.texts.proofs.+digits.Lts-digits as digits-lts
+use Rattle.texts.proofs.+digits.{statement}
+use Rattle.texts.proofs.+digits.Tie.{close}
 
 abbrev μ-digits : Measures 1 digits-kinds.ps ℕ
 μ-digits κs a = a .1 .1 .0

@@ -1,4 +1,4 @@
--- Laws of texts put into a place: one after another, byte by byte, and the digits of a number. Assumes nothing.
+-- Laws of texts put into a place: one after another, byte by byte, the digits of a number, and a line of two. Assumes nothing.
 use mathlib.Core.Path.{_≡_, refl, sym, ap, _∙_}
 use mathlib.Core.List.{List, [], _∷_, _++_}
 use mathlib.Core.Logic.{⊎-elim}
@@ -11,7 +11,7 @@ use lib.ListN.{length, getD, set, take, length-append}
 use lib.Seq.{sets, take-suc, take-all}
 use borrow.Author.Tests.{lt-ltb, le-ltb}
 use Rattle.sets.proofs.Tests.{one-result, cond-true, cond-false, le-or-lt}
-use Rattle.lines.specs.Lines.{Puts, digitsIn, decimal}
+use Rattle.texts.specs.Texts.{Puts, digitsIn, decimal, lineEnd, fieldText, twoNumbers}
 
 sets-append : (before : List ℕ) (at : ℕ) (s t : List ℕ) → sets (sets before at s) (at + length s) t ≡ sets before at (s ++ t)
 sets-append before at [] t = simp unary-clauses
@@ -127,3 +127,9 @@ module _ (n at : ℕ) (before : List ℕ) where
   pub puts-digits : {after : List ℕ} {last : ℕ} → 10 ≤ n → Puts (length (decimal (n / 10))) before at (decimal (n / 10)) after last
       → Puts (length (decimal n)) before at (decimal n) (set after last (48 + n % 10)) (last + 1)
   puts-digits h a = rw (decimal-more n h, length-append) (puts-byte (48 + n % 10) a)
+
+pub puts-two : (first second : List ℕ) (x y : ℕ) {at a b end : ℕ} {before one two after : List ℕ}
+    → Puts (length first + 20) before at (fieldText first x) one a → Puts (length second + 20) one a (fieldText second y) two b → Puts 1 two b lineEnd after end
+    → Puts (length first + length second + 41) before at (twoNumbers first x second y) after end
+unfolding twoNumbers
+puts-two first second x y p q r = puts-within (puts-then (puts-then p q) r) (omega arith)

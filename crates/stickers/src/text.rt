@@ -1,7 +1,7 @@
 // The lines. Each is put from `at` on, and the call answers where it ends. The room that it asks for counts 20 digits
 // for each number.
-use lines::number;
-use lines::word;
+use texts::number;
+use texts::word;
 ghost use Prim.Native.Nat.{_+_, _≤_};
 ghost use lib.ListN.{length};
 

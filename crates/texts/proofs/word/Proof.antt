@@ -1,13 +1,13 @@
--- `lines::word` meets its contract. The loop's invariant: the first i bytes of the text stand. Assumes nothing.
+-- `texts::word` meets its contract. The loop's invariant: the first i bytes of the text stand. Assumes nothing.
 use mathlib.Core.Path.{_≡_, refl}
 use Prim.Native.Nat.{_+_, _-_, _≤_}
 use native.Mathlib.Omega.{arith}
 use native.Mathlib.Numerals.{unary-clauses}
 use lib.ListN.{length, take, length-set}
-use Rattle.lines.specs.Lines.{Puts}
-use Rattle.lines.proofs.PutLaws.{puts-nothing, puts-more, puts-all}
-use Rattle.lines.proofs.word.Statement.{statement}
-use Rattle.lines.proofs.word.Tie as tie
+use Rattle.texts.specs.Texts.{Puts}
+use Rattle.texts.proofs.PutLaws.{puts-nothing, puts-more, puts-all}
+use Rattle.texts.proofs.word.Statement.{statement}
+use Rattle.texts.proofs.word.Tie as tie
 
 abbrev Inv-loop : tie.InvT-loop
 Inv-loop out₀ at text i₀ out i = (i ≤ length text) × (length out ≡ length out₀) × Puts i out₀ at (take i text) out (at + i)

@@ -1,9 +1,9 @@
--- `lines::either` meets its contract. Assumes nothing.
+-- `texts::either` meets its contract. Assumes nothing.
 use native.Mathlib.Omega.{arith}
 use borrow.Author.Needs.{needs}
-use Rattle.lines.proofs.PutLaws.{puts-within}
-use Rattle.lines.proofs.either.Statement.{statement}
-use Rattle.lines.proofs.either.Tie as tie
+use Rattle.texts.proofs.PutLaws.{puts-within}
+use Rattle.texts.proofs.either.Statement.{statement}
+use Rattle.texts.proofs.either.Tie as tie
 
 word-requires : tie.Need-word-requires
 word-requires c κs = search needs
