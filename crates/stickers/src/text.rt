@@ -1,18 +1,9 @@
 // The lines. Each is put from `at` on, and the call answers where it ends. The room that it asks for counts 20 digits
 // for each number.
-use texts::number;
+use texts::field;
 use texts::word;
 ghost use Prim.Native.Nat.{_+_, _≤_};
 ghost use lib.ListN.{length};
-
-// A number with a word before it.
-fn field(out: &mut [u8], at: usize, before: &[u8], n: u64) -> usize
-    requires { ⌜ at + (length (now before) + 20) ≤ length (now out) ⌝ }
-    ensures { λ r. ⌜ r ≤ at + (length (now (before .entry)) + 20) ⌝ }
-{
-    let next = word(out, at, before);
-    number(out, next, n)
-}
 
 pub fn open_line(out: &mut [u8], at: usize, answer: u8) -> usize
     requires { ⌜ at + 26 ≤ length (now out) ⌝ }
