@@ -1,5 +1,5 @@
--- What is promised of a hold after moves were asked of its floor, in the words of demand 3. The theorems are `hold-promised` and
--- `whole-promised` of proofs/Promised.antt. Assumes nothing.
+-- What is promised of a hold after moves were asked of its floor, in the words of demand 3. The theorems are `hold-promised` in
+-- proofs/Promised.antt and `whole-promised` in proofs/WholePromised.antt. Assumes nothing.
 use mathlib.Core.Path.{_≡_}
 use mathlib.Core.Bool.{true, cond}
 use mathlib.Core.List.{List}
