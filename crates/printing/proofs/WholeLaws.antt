@@ -3,13 +3,13 @@ use mathlib.Core.Path.{_≡_, refl, sym, ap, _∙_}
 use mathlib.Core.Bool.{false, not, _||_}
 use mathlib.Core.List.{List}
 use mathlib.Core.Logic.{_≢_, ⊎-elim}
-use Prim.Native.Nat.{ℕ, suc, _+_, _-_, _*_, _/_, _%_, _≤_, _<_, zero-le}
+use Prim.Native.Nat.{ℕ, suc, _+_, _-_, _*_, _/_, _%_, _≤_, _<_}
 use native.Mathlib.Numerals.{add-one}
-use native.Mathlib.Omega.{arith}
 use lib.Dec.{eqb}
 use lib.ListN.{length, take, drop}
 use borrow.Author.Tests.{eq-eqb, ne-eqb, eqb-true, eqb-false}
 use Rattle.sets.proofs.Tests.{decided, cond-both}
+use Rattle.sets.proofs.Rounds.{all-left, none-left, one-left}
 use Rattle.rules.specs.Rules.{unknown, firstOf, mostNotes}
 use Rattle.records.specs.Records.{wellFormed, actionOf, recordAt}
 use Rattle.records.specs.declared.Action.{Action}
@@ -48,19 +48,17 @@ module _ (h : Hold) (area bytes : List ℕ) where
 
 -- after `count` records of at most `limit`, the rest from here is what is left of all
 pub record Going (limit : ℕ) (bytes : List ℕ) (all : Taken) (h : Hold) (area : List ℕ) (answer count : ℕ) : Type 0 where
-  pub upto : count ≤ limit
   pub calm : answer ≡ 0
   pub rest : all ≡ takenFrom (limit - count) h area bytes count
 
 pub going-start : (h : Hold) (area : List ℕ) (limit : ℕ) (bytes : List ℕ) → Going limit bytes (takenFrom limit h area bytes 0) h area 0 0
-going-start h area limit bytes = record { upto = zero-le; calm = refl; rest = ap (λ (n : ℕ). takenFrom n h area bytes 0) (let q : limit ≡ limit - 0 = omega arith in q) }
+going-start h area limit bytes = record { calm = refl; rest = all-left (λ n. takenFrom n h area bytes 0) limit }
 
 module _ (limit : ℕ) (bytes : List ℕ) (all : Taken) (h : Hold) (area : List ℕ) (answer count : ℕ) (g : Going limit bytes all h area answer count) where
   pub going-end : limit ≤ count → record { count = count; out = record { answer = answer; hold = h; area = area } } ≡ all
   going-end e =
-      let z : limit - count ≡ 0 = omega arith in
       sym
-      (g .rest ∙ ap (λ (n : ℕ). takenFrom n h area bytes count) z ∙ taken-none h area bytes count
+      (g .rest ∙ none-left (λ n. takenFrom n h area bytes count) limit count e ∙ taken-none h area bytes count
       ∙ ap (λ (n : ℕ). let r : Taken = record { count = count; out = record { answer = n; hold = h; area = area } } in r) (sym (g .calm)))
 
   -- the next record is taken, and leaves o
@@ -68,14 +66,11 @@ module _ (limit : ℕ) (bytes : List ℕ) (all : Taken) (h : Hold) (area : List 
     is : o ≡ took h area (actionOf (recordAt bytes count))
     is = e ∙ ap (λ (y : List ℕ). took h area (actionOf y)) is-part
 
-    one-less : limit - count ≡ suc (limit - (count + 1))
-    one-less = omega arith
-
     here : all ≡ takenFrom (suc (limit - (count + 1))) h area bytes count
-    here = g .rest ∙ ap (λ (n : ℕ). takenFrom n h area bytes count) one-less
+    here = g .rest ∙ one-left (λ n. takenFrom n h area bytes count) limit count more
 
     pub going-next : o .answer ≡ 0 → Going limit bytes all (o .hold) (o .area) (o .answer) (count + 1)
-    going-next z = record { upto = omega arith; calm = z; rest = here ∙ taken-next h area bytes (limit - (count + 1)) count o is z }
+    going-next z = record { calm = z; rest = here ∙ taken-next h area bytes (limit - (count + 1)) count o is z }
 
     pub going-stop : o .answer ≢ 0 → record { count = count; out = o } ≡ all
     going-stop z = sym (here ∙ taken-stop h area bytes (limit - (count + 1)) count o is z)

@@ -11,13 +11,13 @@ use lib.Seq.{length-take-le}
 use borrow.Author.Tests.{eq-eqb, ne-eqb}
 use Rattle.sets.specs.Counting.{bit}
 use Rattle.sets.proofs.Tests.{decided}
+use Rattle.sets.proofs.Rounds.{all-left, none-left, one-left}
 use Rattle.sets.proofs.CountLaws.{bit-le}
 use Rattle.rules.specs.Rules.{unknown, answer}
 use Rattle.floors.specs.Bridge.{stateOf}
 use Rattle.floors.specs.declared.Settings.{Settings}
 use Rattle.floors.specs.declared.Floor.{Floor}
 use Rattle.records.specs.Records.{wellFormed, actionOf, readOf, recordAt}
-use Rattle.records.specs.declared.Action.{Action}
 use Rattle.records.specs.declared.Reading.{Reading}
 use Rattle.records.proofs.RecordLaws.{read-zero, read-good}
 use Rattle.kinds.proofs.KindLaws.{malformed}
@@ -38,10 +38,6 @@ module _ (bytes : List ℕ) (r : Reading) (is : r ≡ readOf bytes) where
 
   pub record-bad : length bytes ≡ 16 → (r .answer ≡ 0 → ⊥) → moveOf (actionOf bytes) ≡ unknown
   record-bad long z = ⊎-elim (λ formed. absurd (z (ap (λ (y : Reading). y .answer) (is ∙ sym (read-good bytes long formed))))) (malformed (actionOf bytes)) (decided (wellFormed (actionOf bytes)))
-
--- a step with the move that the record names
-pub by-record : (t : Told) (fl : Floor) (area : List ℕ) (x y : Action) → x ≡ y → t ≡ toldAt fl area (moveOf x) → t ≡ toldAt fl area (moveOf y)
-by-record t fl area x y e s = s ∙ ap (λ (z : Action). toldAt fl area (moveOf z)) e
 
 -- ---- the moves of a sequence
 
@@ -85,7 +81,6 @@ module _ (fl : Floor) (area bytes : List ℕ) where
 -- after `count` records of at most `limit`, of which `total` were new: the head and the arrays hold a floor that a step may be made on, and
 -- the run from there is what is left
 pub record Going (k : Settings) (limit : ℕ) (bytes : List ℕ) (all : Went) (h : Head) (f : List Bool) (p a l s x area : List ℕ) (count total : ℕ) : Type 0 where
-  pub upto : count ≤ limit
   pub few : total ≤ count
   pub calm : h .answer ≡ 0
   pub fit : Fit (held k h f p a l s x) area
@@ -94,7 +89,7 @@ pub record Going (k : Settings) (limit : ℕ) (bytes : List ℕ) (all : Went) (h
 pub going-start : (fl : Floor) (area : List ℕ) (limit : ℕ) (bytes : List ℕ) → Fit fl area
     → Going (fl .settings) limit bytes (wentFrom limit fl area bytes 0 0) (record { answer = 0; new = false; clock = fl .clock; waiting = fl .waiting }) (fl .faulty) (fl .pass) (fl .accept) (fl .listed) (fl .sent) (fl .received) area 0 0
 going-start fl area limit bytes fit =
-    record { upto = zero-le; few = zero-le; calm = refl; fit = fit; rest = ap (λ (n : ℕ). wentFrom n fl area bytes 0 0) (let q : limit ≡ limit - 0 = omega arith in q) }
+    record { few = zero-le; calm = refl; fit = fit; rest = all-left (λ n. wentFrom n fl area bytes 0 0) limit }
 
 module _ (k : Settings) (limit : ℕ) (bytes : List ℕ) (all : Went) (h : Head) (f : List Bool) (p a l s x area : List ℕ) (count total : ℕ)
     (g : Going k limit bytes all h f p a l s x area count total) where
@@ -106,9 +101,8 @@ module _ (k : Settings) (limit : ℕ) (bytes : List ℕ) (all : Went) (h : Head)
 
   pub going-end : limit ≤ count → record { count = count; total = total; out = left k h f p a l s x area .out } ≡ all
   going-end e =
-      let z : limit - count ≡ 0 = omega arith in
       sym
-      (g .rest ∙ ap (λ (n : ℕ). wentFrom n now area bytes count total) z ∙ went-none now area bytes count total
+      (g .rest ∙ none-left (λ n. wentFrom n now area bytes count total) limit count e ∙ went-none now area bytes count total
       ∙ ap (λ (n : ℕ). let r : Went = record { count = count; total = total; out = record { answer = n; floor = now; area = area } } in r) (sym (g .calm)))
 
   -- the next record is stepped
@@ -124,8 +118,8 @@ module _ (k : Settings) (limit : ℕ) (bytes : List ℕ) (all : Went) (h : Head)
     is-left : told .out ≡ stepAt now area (moveAt bytes count)
     is-left = ap (λ (t : Told). t .out) is ∙ told-out now area (moveAt bytes count)
 
-    one-less : limit - count ≡ suc (limit - (count + 1))
-    one-less = omega arith
+    here : all ≡ wentFrom (suc (limit - (count + 1))) now area bytes count total
+    here = g .rest ∙ one-left (λ n. wentFrom n now area bytes count total) limit count more
 
     zero-answer : r .answer ≡ 0 → answer (stateOf now area) (moveAt bytes count) ≡ 0
     zero-answer z = sym (step-answer now area (moveAt bytes count)) ∙ ap (λ (o : Outcome). o .answer) (sym is-left) ∙ z
@@ -133,16 +127,14 @@ module _ (k : Settings) (limit : ℕ) (bytes : List ℕ) (all : Went) (h : Head)
     pub going-next : r .answer ≡ 0 → Going k limit bytes all r f′ p′ a′ l′ s′ x′ area′ (count + 1) (total + bit (r .new))
     going-next z =
         record {
-          upto = omega arith;
           few = omega (arith, g .few, bit-le (r .new));
           calm = z;
           fit = step-fit now area (moveAt bytes count) (g .fit) (zero-answer z) (told .out) is-left;
-          rest = g .rest ∙ ap (λ (n : ℕ). wentFrom n now area bytes count total) one-less ∙ went-next now area bytes (limit - (count + 1)) count total told is z;
+          rest = here ∙ went-next now area bytes (limit - (count + 1)) count total told is z;
         }
 
     pub going-stop : (r .answer ≡ 0 → ⊥) → record { count = count; total = total; out = told .out } ≡ all
-    going-stop z =
-        sym (g .rest ∙ ap (λ (n : ℕ). wentFrom n now area bytes count total) one-less ∙ went-stop now area bytes (limit - (count + 1)) count total told is z)
+    going-stop z = sym (here ∙ went-stop now area bytes (limit - (count + 1)) count total told is z)
 
     pub going-long : length area′ ≡ length area
     going-long = ap (λ (o : Outcome). length (o .area)) is-left ∙ step-long now area (moveAt bytes count) (g .fit)

@@ -1,6 +1,8 @@
 -- `sequences::step_record` meets its contract. Assumes nothing.
+use mathlib.Core.Path.{sym, ap}
+use Rattle.kinds.specs.Kinds.{moveOf}
 use Rattle.kinds.proofs.KindLaws.{by-move, no-kind}
-use Rattle.sequences.proofs.SequenceLaws.{record-good, record-bad, by-record}
+use Rattle.sequences.proofs.SequenceLaws.{record-good, record-bad}
 use borrow.Author.Needs.{needs}
 use Rattle.sequences.proofs.step_record.Statement.{statement}
 use Rattle.sequences.proofs.step_record.Tie as tie
@@ -30,7 +32,7 @@ returns-2 : tie.Need-returns-2
 returns-2 c =
     let done = c .before .before in
     let read = done .before .before .before .before .before .before .before .before .before .before .before in
-    by-record _ _ _ _ _ (record-good _ _ (read .read .ensures) (done .before .before .before .before .before .before .before .before .before .if1 .left) .1) (done .step .ensures)
+    by-move _ _ _ _ _ (sym (ap moveOf (record-good _ _ (read .read .ensures) (done .before .before .before .before .before .before .before .before .before .if1 .left) .1))) (done .step .ensures)
 
 pub step-record-spec : {M : Type 1} → statement M
 step-record-spec =
