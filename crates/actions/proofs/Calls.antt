@@ -157,6 +157,14 @@ module _ (fl : Floor) (area : List ℕ) (x : Action) where
     pub act-next : (stateOf (o .floor) (o .area) ≡ next (stateOf fl area) (moveOf x)) × Fit (o .floor) (o .area)
     act-next = subst (λ (q : Outcome). (stateOf (q .floor) (q .area) ≡ next (stateOf fl area) (moveOf x)) × Fit (q .floor) (q .area)) act-out (step-next fl area (moveOf x) fit)
 
+  -- the arrays keep their lengths
+  pub act-sized : Sized fl → Sized (acted fl area x .out .floor)
+  act-sized sized =
+      call-either fl area sized (λ short. refuses 15 (act-15 short)) (λ long s. refuses 1 (act-1 long false (sym s) refl)) (λ fit. act-next fit .1 .sized)
+    where
+      refuses : (number : ℕ) → noneNew (refusal number fl area) ≡ acted fl area x → Sized (acted fl area x .out .floor)
+      refuses number e = subst (λ (t : Told). Sized (t .out .floor)) e sized
+
   -- what is told of an action is the source that all sets together have grown by
   abbrev Added : Told → Type 0
   Added t = sizes (t .out .floor .received) ≡ sizes (fl .received) + bit (t .new)

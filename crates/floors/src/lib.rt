@@ -128,13 +128,26 @@ fn with_if(set: EntrySet, entry: EntryNo, put: bool) -> EntrySet
     if put { set.with(entry) } else { set }
 }
 
+// How many entries there are. What this says again, that they are 64 at most, the compiler knows then: it leaves out a test
+// for each of them.
+fn entries_of(settings: Settings) -> u8
+    requires { ⌜ settings .u ≤ 64 ⌝ }
+    ensures { λ r. ⌜ r ≡ settings .u ⌝ }
+{
+    if settings.u < Settings::ENTRIES {
+        settings.u
+    } else {
+        Settings::ENTRIES
+    }
+}
+
 impl Desk {
     // The entries that are to be passed on.
     pub fn due(self, settings: Settings) -> EntrySet
         requires { ⌜ settings .u ≤ 64 ⌝ }
         ensures { λ r. ⌜ r .0 ≡ insertAll (due (settingsOf settings) (readOf self)) 0 (settings .u) ⌝ }
     {
-        let u = settings.u;
+        let u = entries_of(settings);
         let mut heard = EntrySet::empty();
         let mut e: u8 = 0;
         while e < u {
@@ -164,7 +177,7 @@ impl Desk {
         ensures { λ r. ⌜ readOf r ≡ accepting (settingsOf settings) (number .0) (readOf self) ⌝ }
     {
         let enough = settings.n - settings.f;
-        let u = settings.u;
+        let u = entries_of(settings);
         let mut listed = self.listed;
         let mut e: u8 = 0;
         while e < u {

@@ -6,26 +6,24 @@ use mathlib.Core.Logic.{_≢_}
 use Prim.Native.Nat.{ℕ, _≤_, _<_}
 use native.Mathlib.Nat.{lt-of-lt-of-le}
 use lib.Dec.{eqb}
-use lib.ListN.{length, set, replicate}
-use borrow.Author.Tests.{eq-eqb, ne-eqb, eqb-true, not-true, not-false}
-use Rattle.sets.specs.Sets.{insertBelow}
+use lib.ListN.{length, replicate, length-set}
+use borrow.Author.Tests.{eq-eqb, ne-eqb, eqb-true}
 use Rattle.sets.specs.declared.EntrySet.{EntrySet}
 use Rattle.sets.proofs.Tests.{was-true, was-false, and-left, and-right, cond-true, cond-false, cond-both}
 use Rattle.rules.specs.Rules.{firstOf, announce, unknown, mostNotes}
 use Rattle.rules.proofs.CheckLaws.{first-none, first-fails, first-passes, carried-out, announce-below}
 use Rattle.rules.proofs.Shapes.{shape-limits}
 use Rattle.records.specs.declared.Action.{Action}
-use Rattle.floors.specs.Bridge.{stateOf}
+use Rattle.floors.specs.Bridge.{stateOf, Sized}
 use Rattle.floors.specs.declared.Floor.{Floor}
 use Rattle.shapes.specs.Shape.{inShapeAt}
 use Rattle.shapes.proofs.ShapeLaws.{shape-holds}
-use Rattle.moves.specs.Moves.{Outcome, Told, noneNew}
+use Rattle.moves.specs.Moves.{Outcome, refusal, Told, noneNew}
 use Rattle.kinds.specs.Kinds.{moveOf}
 use Rattle.actions.specs.Actions.{wrongArea, acted, opened}
-use Rattle.actions.proofs.Calls.{area-fails, area-passes, act-done, act-refused, act-unknown, act-same, act-announces}
+use Rattle.actions.proofs.Calls.{area-fails, area-passes, act-done, act-sized, act-refused, act-unknown, act-same, act-announces}
 use Rattle.holds.specs.declared.Hold.{Hold}
-use Rattle.noting.specs.Entry.{clockNoted}
-use Rattle.holds.specs.Holding.{announcersAt, notedAt, newHold, withFloor, announcing, notedInShape, notedOutOfShape, Holding, refusing, opening, openedHold, taking, took}
+use Rattle.holds.specs.Holding.{newHold, withFloor, announcing, notedInShape, notedOutOfShape, Holding, refusing, opening, openedHold, taking, took}
 
 -- ---- an opening
 
@@ -45,12 +43,6 @@ opened-hold area x = refl
 
 -- ---- an action
 
--- after and clock are what the calls gave
-pub announced-by : (h : Hold) (fl : Floor) (i e after clock : ℕ) → after ≡ insertBelow 16 (announcersAt h e) i
-    → clock ≡ clockNoted (h .floor .settings .f) (announcersAt h e) after (h .floor .clock) (notedAt h e)
-    → record { floor = fl; announcers = set (h .announcers) e after; noted = set (h .noted) e clock; printed = h .printed } ≡ announcing h fl i e
-announced-by h fl i e after clock p q = rw (q, p)
-
 -- an announcement that was carried out is of an entry below U, by one of the n desks
 pub announced-below : (fl : Floor) (area : List ℕ) (x : Action) → acted fl area x .out .answer ≡ 0 → x .kind ≡ 1
     → (x .desk .0 < fl .settings .n) × (x .entry .0 < fl .settings .u)
@@ -63,16 +55,22 @@ pub few-entries : (fl : Floor) (area : List ℕ) → inShapeAt fl area ≡ true 
 few-entries fl area shaped = shape-limits (stateOf fl area) (shape-holds fl area shaped .1) .entries .1
 
 module _ (h : Hold) (area : List ℕ) (x : Action) where
-  took-refused : (number : ℕ) → eqb number 0 ≡ false → firstOf (wrongArea area ∷ notedOutOfShape h ∷ []) ≡ number → refusing number h area ≡ took h area x
-  unfolding took
-  took-refused number some e = rw (e, some)
+  -- what comes back with what the library told, and with these announcers and noted clocks
+  abbrev telling : Told → List ℕ → List ℕ → Holding
+  telling t announcers noted = record { answer = t .out .answer; hold = record { floor = t .out .floor; announcers = announcers; noted = noted; printed = h .printed }; area = t .out .area }
 
-  pub took-15 : length area ≢ mostNotes → refusing 15 h area ≡ took h area x
+  -- t is what the head and the arrays hold
+  took-refused : (number : ℕ) → eqb number 0 ≡ false → firstOf (wrongArea area ∷ notedOutOfShape h ∷ []) ≡ number
+      → (t : Told) → t ≡ noneNew (refusal number (h .floor) area) → telling t (h .announcers) (h .noted) ≡ took h area x
+  unfolding took
+  took-refused number some e t is = rw (is, e, some)
+
+  pub took-15 : length area ≢ mostNotes → (t : Told) → t ≡ noneNew (refusal 15 (h .floor) area) → telling t (h .announcers) (h .noted) ≡ took h area x
   took-15 short = took-refused 15 refl (area-fails area _ short)
 
   -- fits is what the check of what is noted answered
   module _ (long : length area ≡ mostNotes) (fits : Bool) (s : fits ≡ notedInShape h) where
-    pub took-1 : not fits ≡ true → refusing 1 h area ≡ took h area x
+    pub took-1 : not fits ≡ true → (t : Told) → t ≡ noneNew (refusal 1 (h .floor) area) → telling t (h .announcers) (h .noted) ≡ took h area x
     took-1 y = took-refused 1 refl (area-passes area _ long ∙ first-fails 1 (not (notedInShape h)) [] (ap not (was-false s y)))
 
     module _ (y : not fits ≡ false) where
@@ -93,24 +91,27 @@ module _ (h : Hold) (area : List ℕ) (x : Action) where
         abbrev with-hold : Hold → Holding
         with-hold q = record { answer = t .out .answer; hold = q; area = t .out .area }
 
-        pub took-other : not announced ≡ true → (q : Hold) → q ≡ withFloor h (t .out .floor) → with-hold q ≡ took h area x
-        took-other z q e = ap with-hold e ∙ sym (taken ∙ ap with-hold (cond-false announced (announcing h (t .out .floor) (x .desk .0) (x .entry .0)) (withFloor h (t .out .floor)) (not-true announced z)))
+        -- the hold with the announcement noted
+        abbrev noting : Hold
+        noting = announcing h (t .out .floor) (x .desk .0) (x .entry .0)
 
-        module _ (z : not announced ≡ false) where
+        pub took-other : announced ≡ false → telling t (h .announcers) (h .noted) ≡ took h area x
+        took-other z = sym (taken ∙ ap with-hold (cond-false announced noting (withFloor h (t .out .floor)) z))
+
+        module _ (z : announced ≡ true) where
           done : (t .out .answer ≡ 0) × (x .kind ≡ 1)
           done =
               let answered = eqb (t .out .answer) 0 in
               let kind = eqb (x .kind) 1 in
-              (eqb-true (t .out .answer) 0 (and-left answered kind (not-false announced z)), eqb-true (x .kind) 1 (and-right answered kind (not-false announced z)))
+              (eqb-true (t .out .answer) 0 (and-left answered kind z), eqb-true (x .kind) 1 (and-right answered kind z))
 
           pub entry-there : x .entry .0 < 64
           entry-there =
               let zero : acted (h .floor) area x .out .answer ≡ 0 = ap (λ (q : Told). q .out .answer) (sym is) ∙ done .0 in
               lt-of-lt-of-le (announced-below (h .floor) area x zero (done .1) .1) (few-entries (h .floor) area (act-done (h .floor) area x zero .0))
 
-          pub took-announced : (q : Hold) → q ≡ announcing h (t .out .floor) (x .desk .0) (x .entry .0) → with-hold q ≡ took h area x
-          took-announced q e =
-              ap with-hold e ∙ sym (taken ∙ ap with-hold (cond-true announced (announcing h (t .out .floor) (x .desk .0) (x .entry .0)) (withFloor h (t .out .floor)) (not-false announced z)))
+          pub took-announced : (announcers noted : List ℕ) → (announcers ≡ noting .announcers) × (noted ≡ noting .noted) → telling t announcers noted ≡ took h area x
+          took-announced announcers noted (p, q) = rw (p, q) (sym (taken ∙ ap with-hold (cond-true announced noting (withFloor h (t .out .floor)) z)))
 
 -- whatever is noted, the floor is the library's
 pub taking-floor : (h : Hold) (x : Action) (o : Outcome) → let q = taking h x o in record { answer = q .answer; floor = q .hold .floor; area = q .area } ≡ o
@@ -137,6 +138,21 @@ took-printed h area x =
     cond-both (λ (q : Holding). q .hold .printed ≡ h .printed) (eqb number 0) (taking h x o) (refusing number h area)
     (λ e. cond-both (λ (q : Hold). q .printed ≡ h .printed) (eqb (o .answer) 0 && eqb (x .kind) 1) (announcing h (o .floor) (x .desk .0) (x .entry .0)) (withFloor h (o .floor)) (λ t. refl) (λ f. refl))
     (λ e. refl)
+
+-- the arrays have the lengths that their types say, and keep them
+abbrev pub SizedHold : Hold → Type 0
+SizedHold h = Sized (h .floor) × (length (h .announcers) ≡ 64) × (length (h .noted) ≡ 64)
+
+pub took-sized : (h : Hold) (area : List ℕ) (x : Action) → SizedHold h → SizedHold (took h area x .hold)
+unfolding took
+took-sized h area x (sized, announcers, noted) =
+    let number = firstOf (wrongArea area ∷ notedOutOfShape h ∷ []) in
+    let o = acted (h .floor) area x .out in
+    let fl = act-sized (h .floor) area x sized in
+    cond-both (λ (q : Holding). SizedHold (q .hold)) (eqb number 0) (taking h x o) (refusing number h area)
+    (λ e. cond-both SizedHold (eqb (o .answer) 0 && eqb (x .kind) 1) (announcing h (o .floor) (x .desk .0) (x .entry .0)) (withFloor h (o .floor))
+    (λ t. (fl, rw length-set announcers, rw length-set noted)) (λ f. (fl, announcers, noted)))
+    (λ e. (sized, announcers, noted))
 
 -- what asks for no action is refused alike
 pub took-unknown : (h : Hold) (area : List ℕ) (x y : Action) → moveOf x ≡ unknown → moveOf y ≡ unknown → took h area x ≡ took h area y

@@ -1,11 +1,15 @@
 -- The shape of what a hold has beside its floor: what the check computes, and what every entry then has. Assumes nothing.
-use mathlib.Core.Path.{_≡_, sym}
+use mathlib.Core.Path.{_≡_, refl, sym}
 use mathlib.Core.Bool.{Bool, true, _&&_}
+use mathlib.Core.List.{List, []}
 use Prim.Native.Nat.{ℕ, _+_, _<_}
 use lib.ListN.{getD-replicate}
+use Rattle.sets.specs.declared.EntrySet.{EntrySet}
 use Rattle.sets.proofs.MemberLaws.{member-zero}
 use Rattle.rules.specs.Rules.{everyBelow}
 use Rattle.rules.proofs.DeskLaws.{below-step, below-each, each-below}
+use Rattle.floors.specs.Bridge.{floor}
+use Rattle.floors.specs.declared.Settings.{Settings}
 use Rattle.floors.specs.declared.Floor.{Floor}
 use Rattle.noting.specs.Entry.{entryInShape}
 use Rattle.noting.proofs.ShapeKept.{EntryShape, shape-entry, entry-shape, none-shape}
@@ -22,6 +26,14 @@ entries-turn h e all fits was p q r = rw (p, r, q) (sym (below-step (entryInShap
 pub entries-end : (h : Hold) (e : ℕ) (all : Bool) → e ≡ 64 → all ≡ everyBelow (entryInShapeAt h) e → all ≡ notedInShape h
 unfolding notedInShape
 entries-end h e all end p = rw (p, end)
+
+-- a hold of which only what its shape reads is given
+abbrev pub readParts : Settings → ℕ → List ℕ → List ℕ → List ℕ → EntrySet → Hold
+readParts k clock sent announcers noted printed = record { floor = floor k clock 0 [] [] [] [] sent []; announcers = announcers; noted = noted; printed = printed }
+
+pub noted-read : (h : Hold) → notedInShape (readParts (h .floor .settings) (h .floor .clock) (h .floor .sent) (h .announcers) (h .noted) (h .printed)) ≡ notedInShape h
+unfolding notedInShape entryInShapeAt
+noted-read h = refl
 
 -- every entry of a hold
 abbrev pub EntryShapeAt : Hold → ℕ → Type 0

@@ -2,9 +2,12 @@
 // rests on what the library promises of its calls.
 pub mod shape;
 
-use actions::act;
+use crate::shape::all_noted_in_shape;
+use actions::act_on;
 use floors::Floor;
 use floors::Settings;
+use moves::head::Head;
+use moves::head::answered;
 use noting::clock_noted;
 use records::Action;
 use sets::DeskNo;
@@ -13,8 +16,12 @@ use sets::EntryNo;
 use sets::EntrySet;
 ghost use mathlib.Core.Path.{_≡_};
 ghost use Prim.Native.Nat.{_<_};
-ghost use Rattle.floors.specs.Bridge.{noFloor};
-ghost use Rattle.holds.specs.Holding.{newHold, withFloor, announcing, openedHold, took};
+ghost use lib.ListN.{length, getD, set};
+ghost use Rattle.sets.specs.Sets.{insertBelow};
+ghost use Rattle.floors.specs.Bridge.{noFloor, Sized};
+ghost use Rattle.moves.specs.Moves.{held};
+ghost use Rattle.noting.specs.Entry.{clockNoted};
+ghost use Rattle.holds.specs.Holding.{newHold, openedHold, took};
 
 // `announcers` has a set of desks for each entry, and `noted` the clock at which its wait began: 0 while it has not.
 pub struct Hold {
@@ -49,42 +56,6 @@ impl Hold {
     {
         Hold::new(Floor::none())
     }
-
-    fn with_floor(self, floor: Floor) -> Hold
-        ensures { λ r. ⌜ r ≡ withFloor self floor ⌝ }
-    {
-        let mut hold = self;
-        hold.floor = floor;
-        hold
-    }
-
-    // Notes an announcement that was carried out and left this floor.
-    fn announced(self, floor: Floor, desk: DeskNo, entry: EntryNo) -> Hold
-        requires { ⌜ entry .0 < 64 ⌝ }
-        ensures { λ r. ⌜ r ≡ announcing self floor (desk .0) (entry .0) ⌝ }
-    {
-        let at = entry.0 as usize;
-        let mut announcers = self.announcers;
-        let mut noted = self.noted;
-        let before = DeskSet(announcers[at]);
-        let after = before.with(desk);
-        let clock = clock_noted(
-            self.floor.settings.f,
-            before,
-            after,
-            self.floor.clock,
-            noted[at],
-        );
-        announcers[at] = after.0;
-        noted[at] = clock;
-        let printed = self.printed;
-        Hold {
-            floor: floor,
-            announcers: announcers,
-            noted: noted,
-            printed: printed,
-        }
-    }
 }
 
 pub fn open(opening: Action, area: &mut [u64]) -> Held
@@ -98,33 +69,134 @@ pub fn open(opening: Action, area: &mut [u64]) -> Held
     }
 }
 
+// Notes an announcement that was carried out at this clock.
+fn note_announcement(
+    f: u8,
+    clock: u32,
+    desk: DeskNo,
+    entry: EntryNo,
+    announcers: &mut [u16; 64],
+    noted: &mut [u32; 64],
+)
+    requires { ⌜ (entry .0 < 64) × (length (now announcers) ≡ 64) × (length (now noted) ≡ 64) ⌝ }
+    ensures { λ _. ⌜ (
+        let before = getD (now (announcers .entry)) (entry .0) 0 in
+        let after = insertBelow 16 before (desk .0) in
+        (now (announcers .exit) ≡ set (now (announcers .entry)) (entry .0) after)
+        × (now (noted .exit) ≡ set (now (noted .entry)) (entry .0) (clockNoted f before after clock (getD (now (noted .entry)) (entry .0) 0)))
+        ) ⌝ }
+{
+    let at = entry.0 as usize;
+    let before = DeskSet(announcers[at]);
+    let after = before.with(desk);
+    noted[at] = clock_noted(f, before, after, clock, noted[at]);
+    announcers[at] = after.0;
+}
+
+// One action on a hold that is taken apart.
+pub fn take_on(
+    settings: Settings,
+    head: Head,
+    action: Action,
+    faulty: &mut [bool; 16],
+    pass: &mut [u32; 16],
+    accept: &mut [u32; 16],
+    listed: &mut [u64; 16],
+    sent: &mut [u64; 16],
+    received: &mut [u16; 1024],
+    area: &mut [u64],
+    announcers: &mut [u16; 64],
+    noted: &mut [u32; 64],
+    printed: EntrySet,
+) -> Head
+    requires { ⌜ Sized (held settings head (now faulty) (now pass) (now accept) (now listed) (now sent) (now received)) × (length (now announcers) ≡ 64) × (length (now noted) ≡ 64) ⌝ }
+    ensures { λ r. ⌜ record { answer = r .answer; hold = record { floor = held settings r (now (faulty .exit)) (now (pass .exit)) (now (accept .exit)) (now (listed .exit)) (now (sent .exit)) (now (received .exit)); announcers = now (announcers .exit); noted = now (noted .exit); printed = printed }; area = now (area .exit) }
+        ≡ took (record { floor = held settings head (now (faulty .entry)) (now (pass .entry)) (now (accept .entry)) (now (listed .entry)) (now (sent .entry)) (now (received .entry)); announcers = now (announcers .entry); noted = now (noted .entry); printed = printed }) (now (area .entry)) action ⌝ }
+{
+    if area.len() != Settings::NOTES {
+        return answered(15, head);
+    }
+    if !all_noted_in_shape(settings, head.clock, sent, announcers, noted, printed) {
+        return answered(1, head);
+    }
+    let after = act_on(
+        settings,
+        head,
+        action,
+        faulty,
+        pass,
+        accept,
+        listed,
+        sent,
+        received,
+        area,
+    );
+    if (after.answer == 0) & (action.kind == 1) {
+        note_announcement(
+            settings.f,
+            head.clock,
+            action.desk,
+            action.entry,
+            announcers,
+            noted,
+        );
+    }
+    after
+}
+
 // One action, carried out on the floor by the library.
 pub fn take(hold: Hold, area: &mut [u64], action: Action) -> Held
     ensures { λ r. ⌜ record { answer = r .answer; hold = r .hold; area = now (area .exit) } ≡ took hold (now (area .entry)) action ⌝ }
 {
-    if area.len() != Settings::NOTES {
-        return Held {
-            answer: 15,
-            hold: hold,
-        };
-    }
-    if !hold.noted_in_shape() {
-        return Held {
-            answer: 1,
-            hold: hold,
-        };
-    }
-    let acted = act(hold.floor, area, action);
-    let floor = acted.floor;
-    let announced = (acted.answer == 0) & (action.kind == 1);
-    if !announced {
-        return Held {
-            answer: acted.answer,
-            hold: hold.with_floor(floor),
-        };
-    }
+    let floor = hold.floor;
+    let settings = floor.settings;
+    let mut faulty = floor.faulty;
+    let mut pass = floor.pass;
+    let mut accept = floor.accept;
+    let mut listed = floor.listed;
+    let mut sent = floor.sent;
+    let mut received = floor.received;
+    let mut announcers = hold.announcers;
+    let mut noted = hold.noted;
+    let printed = hold.printed;
+    let head = Head {
+        answer: 0,
+        new: false,
+        clock: floor.clock,
+        waiting: floor.waiting,
+    };
+    let after = take_on(
+        settings,
+        head,
+        action,
+        &mut faulty,
+        &mut pass,
+        &mut accept,
+        &mut listed,
+        &mut sent,
+        &mut received,
+        area,
+        &mut announcers,
+        &mut noted,
+        printed,
+    );
     Held {
-        answer: acted.answer,
-        hold: hold.announced(floor, action.desk, action.entry),
+        answer: after.answer,
+        hold: Hold {
+            floor: Floor {
+                settings: settings,
+                clock: after.clock,
+                waiting: after.waiting,
+                faulty: faulty,
+                pass: pass,
+                accept: accept,
+                listed: listed,
+                sent: sent,
+                received: received,
+            },
+            announcers: announcers,
+            noted: noted,
+            printed: printed,
+        },
     }
 }

@@ -15,7 +15,7 @@ use Rattle.floors.specs.Bridge.{stateOf, floorOf}
 use Rattle.floors.specs.declared.Settings.{Settings}
 use Rattle.floors.specs.declared.Floor.{Floor}
 use Rattle.moves.specs.declared.head.Head.{Head}
-use Rattle.moves.specs.Moves.{refusal, stepAt, noneNew, toldAt, held, left, answering}
+use Rattle.moves.specs.Moves.{refusal, stepAt, Told, noneNew, toldAt, held, left, answering}
 
 -- ---- the checks that several moves share
 
@@ -57,7 +57,11 @@ module _ (fl : Floor) (area : List ℕ) (m : Move) where
   step-done fl′ area′ e p q = rw (new-carried (stateOf fl area) m e, eq-eqb (answer (stateOf fl area) m) 0 e, p, q)
 
 -- a head that says no, with the arrays as they were
+pub says-no : (k : Settings) (h r : Head) (f : List Bool) (p a l s x area : List ℕ) (number : ℕ) → r ≡ answering number h
+    → (t : Told) → noneNew (refusal number (held k h f p a l s x) area) ≡ t → left k r f p a l s x area ≡ t
+says-no k h r f p a l s x area number q t e = rw q e
+
 module _ (k : Settings) (h r : Head) (f : List Bool) (p a l s x area : List ℕ) (m : Move) where
   pub refused : (number : ℕ) → eqb number 0 ≡ false → answer (stateOf (held k h f p a l s x) area) m ≡ number
       → r ≡ answering number h → left k r f p a l s x area ≡ toldAt (held k h f p a l s x) area m
-  refused number some e q = rw q (told-refused (held k h f p a l s x) area m number (not-zero number some) e)
+  refused number some e q = says-no k h r f p a l s x area number q _ (told-refused (held k h f p a l s x) area m number (not-zero number some) e)

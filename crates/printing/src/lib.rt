@@ -1,17 +1,20 @@
 // The hold on the printers for a whole sequence: an opening, and every record after it taken in turn, up to the first
 // that is refused. What is promised of a hold stands in specs/Promise.antt.
+use floors::Floor;
 use floors::Settings;
-use holds::Held;
 use holds::Hold;
 use holds::open;
-use holds::take;
+use holds::take_on;
+use moves::head::Head;
 use records::Action;
 use sets::DeskNo;
 use sets::EntryNo;
 ghost use mathlib.Core.Path.{_≡_};
-ghost use Prim.Native.Nat.{_*_, _≤_};
+ghost use mathlib.Core.List.{List};
+ghost use Prim.Native.Nat.{ℕ, _*_, _≤_};
 ghost use lib.ListN.{length};
 ghost use Rattle.records.specs.Records.{actionOf};
+ghost use Rattle.holds.specs.declared.Hold.{Hold};
 ghost use Rattle.holds.specs.Holding.{took};
 ghost use Rattle.printing.specs.Whole.{takenFrom, wholeTaken};
 
@@ -22,14 +25,15 @@ pub struct Taken {
     pub hold: Hold,
 }
 
-// A record that cannot be read asks for no action. An unknown kind is refused as it is, after 15 and 1.
-fn take_record(hold: Hold, area: &mut [u64], bytes: &[u8]) -> Held
+// The action that a record asks for. One that cannot be read asks for none, and an unknown kind is refused as it is, after
+// 15 and 1.
+fn asked_by(bytes: &[u8]) -> Action
     requires { ⌜ length (now bytes) ≡ 16 ⌝ }
-    ensures { λ r. ⌜ record { answer = r .answer; hold = r .hold; area = now (area .exit) } ≡ took hold (now (area .entry)) (actionOf (now (bytes .entry))) ⌝ }
+    ensures { λ r. ⌜ ((h : Hold) → (area : List ℕ) → took h area r ≡ took h area (actionOf (now (bytes .entry)))) ⌝ }
 {
     let reading = records::read(bytes);
     if reading.answer != 0 {
-        let unknown = Action {
+        return Action {
             kind: 255,
             desk: DeskNo(0),
             other: DeskNo(0),
@@ -38,33 +42,76 @@ fn take_record(hold: Hold, area: &mut [u64], bytes: &[u8]) -> Held
             b: 0,
             c: 0,
         };
-        return take(hold, area, unknown);
     }
-    take(hold, area, reading.action)
+    reading.action
 }
 
+// At most `limit` records, up to the first that is refused. The hold is taken apart once for all of them.
 fn take_records(opened: Hold, area: &mut [u64], sequence: &[u8], limit: usize) -> Taken
     requires { ⌜ 16 * limit ≤ length (now sequence) ⌝ }
     ensures { λ r. ⌜ record { count = r .count; out = record { answer = r .answer; hold = r .hold; area = now (area .exit) } } ≡ takenFrom limit opened (now (area .entry)) (now (sequence .entry)) 0 ⌝ }
 {
-    let mut hold = opened;
-    let mut answer: u8 = 0;
+    let floor = opened.floor;
+    let settings = floor.settings;
+    let mut faulty = floor.faulty;
+    let mut pass = floor.pass;
+    let mut accept = floor.accept;
+    let mut listed = floor.listed;
+    let mut sent = floor.sent;
+    let mut received = floor.received;
+    let mut announcers = opened.announcers;
+    let mut noted = opened.noted;
+    let printed = opened.printed;
+    let mut head = Head {
+        answer: 0,
+        new: false,
+        clock: floor.clock,
+        waiting: floor.waiting,
+    };
     let mut count: usize = 0;
     while count < limit {
         let at = 16 * count;
         let end = at + 16;
-        let held = take_record(hold, area, &sequence[at..end]);
-        hold = held.hold;
-        answer = held.answer;
-        if answer != 0 {
+        let action = asked_by(&sequence[at..end]);
+        head = take_on(
+            settings,
+            head,
+            action,
+            &mut faulty,
+            &mut pass,
+            &mut accept,
+            &mut listed,
+            &mut sent,
+            &mut received,
+            area,
+            &mut announcers,
+            &mut noted,
+            printed,
+        );
+        if head.answer != 0 {
             break;
         }
         count += 1;
     }
     Taken {
         count: count,
-        answer: answer,
-        hold: hold,
+        answer: head.answer,
+        hold: Hold {
+            floor: Floor {
+                settings: settings,
+                clock: head.clock,
+                waiting: head.waiting,
+                faulty: faulty,
+                pass: pass,
+                accept: accept,
+                listed: listed,
+                sent: sent,
+                received: received,
+            },
+            announcers: announcers,
+            noted: noted,
+            printed: printed,
+        },
     }
 }
 

@@ -1,16 +1,16 @@
 -- Whether a sticker may be printed, by its checks, and the ways of a print. Assumes nothing.
 use mathlib.Core.Path.{_≡_, refl, sym, ap, _∙_}
-use mathlib.Core.Bool.{Bool, true, false, not}
+use mathlib.Core.Bool.{Bool, true, false, not, cond}
 use mathlib.Core.List.{List, [], _∷_}
 use mathlib.Core.Logic.{_≢_}
 use Prim.Native.Nat.{ℕ, _≤_, _<_}
 use native.Mathlib.Nat.{lt-of-lt-of-le}
 use lib.Dec.{eqb, ltb}
-use lib.ListN.{length, set}
-use borrow.Author.Tests.{ne-eqb, eqb-true, eqb-false, lt-ltb, le-ltb, not-false}
+use lib.ListN.{length}
+use borrow.Author.Tests.{eqb-true, eqb-false, lt-ltb, le-ltb, not-false}
 use Rattle.sets.specs.Sets.{insertBelow}
 use Rattle.sets.specs.declared.EntrySet.{EntrySet}
-use Rattle.sets.proofs.Tests.{was-true, was-false, cond-both}
+use Rattle.sets.proofs.Tests.{was-true, was-false, cond-true, cond-false, cond-both}
 use Rattle.rules.specs.Rules.{Check, _when_, firstOf, mostNotes}
 use Rattle.rules.proofs.CheckLaws.{first-none, first-fails, first-passes, zero-passed, not-zero, below-passed}
 use Rattle.floors.specs.declared.Floor.{Floor}
@@ -37,9 +37,6 @@ module _ (h : Hold) (area : List ℕ) (e : ℕ) where
     may-1 y = sym (call-1 fl area _ long fits s y)
 
     module _ (y : not fits ≡ false) where
-      pub below-64 : fl .settings .u ≤ 64
-      below-64 = few-entries fl area (was-true s y)
-
       abbrev from-17 : List Check
       from-17 = 17 when not (waitOverAt h e) ∷ 18 when isPrinted h e ∷ []
 
@@ -81,17 +78,20 @@ module _ (h : Hold) (area : List ℕ) (e : ℕ) where
 
   -- ---- a print
 
-  -- number is what the call answered
-  module _ (number : ℕ) (is : number ≡ mayPrint h area e) where
-    pub print-refused : number ≢ 0 → refusing number h area ≡ printed h area e
-    unfolding printed
-    print-refused z = rw (← is, ne-eqb number 0 z)
+  -- what comes back with this number and with this printed
+  abbrev marking : ℕ → ℕ → Holding
+  marking number n = record { answer = number; hold = record { floor = h .floor; announcers = h .announcers; noted = h .noted; printed = record { 0 = n } }; area = area }
 
-    -- with′ is what the call for the set gave
-    pub print-marks : number ≡ 0 → (with′ : EntrySet) → with′ .0 ≡ insertBelow 64 (h .printed .0) e
-        → record { answer = 0; hold = record { floor = h .floor; announcers = h .announcers; noted = h .noted; printed = with′ }; area = area } ≡ printed h area e
-    unfolding printed
-    print-marks z with′ q = rw (← is, z) (ap (λ (n : ℕ). let o : Holding = record { answer = 0; hold = record { floor = h .floor; announcers = h .announcers; noted = h .noted; printed = record { 0 = n } }; area = area } in o) q)
+  -- number and marked are what the calls gave
+  pub print-by : (number : ℕ) → number ≡ mayPrint h area e → (marked : EntrySet) → marked .0 ≡ cond (eqb number 0) (insertBelow 64 (h .printed .0) e) (h .printed .0)
+      → marking number (marked .0) ≡ printed h area e
+  unfolding printed
+  print-by number is marked q =
+      let with′ = insertBelow 64 (h .printed .0) e in
+      rw (← is)
+      (cond-both (λ (o : Holding). marking number (marked .0) ≡ o) (eqb number 0) (marking 0 with′) (refusing number h area)
+      (λ z. ap (λ (k : ℕ). marking k (marked .0)) (eqb-true number 0 z) ∙ ap (marking 0) (q ∙ cond-true (eqb number 0) with′ (h .printed .0) z))
+      (λ z. ap (marking number) (q ∙ cond-false (eqb number 0) with′ (h .printed .0) z)))
 
 -- ---- the ways of a print
 

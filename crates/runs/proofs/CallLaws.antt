@@ -1,6 +1,6 @@
 -- The ways out of a run, of the part not carried out, and of a whole sequence. Assumes nothing.
 use mathlib.Core.Path.{_≡_, refl, sym, ap, _∙_, subst}
-use mathlib.Core.Bool.{Bool, true, false, not, _&&_, _||_}
+use mathlib.Core.Bool.{Bool, true, false, not, cond, _&&_, _||_}
 use mathlib.Core.Logic.{_≢_, ⊎-elim}
 use mathlib.Core.List.{List, [], _∷_}
 use Prim.Native.Nat.{ℕ, _-_, _*_, _/_, _%_, _≤_, _<_, min}
@@ -10,15 +10,16 @@ use lib.Dec.{eqb}
 use lib.ListN.{length, take, drop, length-drop, drop-of-length-le}
 use lib.Seq.{take-all, drop-length}
 use borrow.Author.Tests.{eq-eqb, ne-eqb, eqb-true, eqb-false, not-false}
-use Rattle.sets.proofs.Tests.{decided, or-none}
+use Rattle.sets.proofs.Tests.{decided, or-none, cond-both}
 use Rattle.rules.specs.Rules.{firstOf, _when_, mostNotes}
 use Rattle.rules.specs.Running.{run}
-use Rattle.rules.proofs.CheckLaws.{first-none, first-fails, first-passes}
+use Rattle.rules.proofs.CheckLaws.{first-none, first-fails, first-passes, zero-passed, not-zero}
 use Rattle.records.specs.Records.{wellFormed, actionOf, readOf, zeros}
 use Rattle.records.specs.declared.Action.{Action}
 use Rattle.records.specs.declared.Reading.{Reading}
 use Rattle.records.proofs.RecordLaws.{read-good, read-zeros}
-use Rattle.floors.specs.Bridge.{stateOf, noFloor}
+use Rattle.floors.specs.Bridge.{floor, stateOf, noFloor}
+use Rattle.floors.specs.declared.Settings.{Settings}
 use Rattle.floors.specs.declared.Floor.{Floor}
 use Rattle.shapes.specs.Shape.{inShapeAt}
 use Rattle.moves.specs.Moves.{Outcome, refusal}
@@ -27,9 +28,19 @@ use Rattle.actions.specs.Actions.{opened}
 use Rattle.actions.proofs.Calls.{fit-shape, area-fails, area-passes, call-15, call-1, call-passes}
 use Rattle.actions.proofs.Openings.{open-3, opened-none, opened-fit}
 use Rattle.sequences.specs.Sequences.{movesFrom, Went, wentFrom}
+use Rattle.sequences.specs.declared.Tally.{Tally}
 use Rattle.sequences.proofs.SequenceLaws.{record-good}
 use Rattle.sequences.proofs.SameRun.{Same, run-same}
 use Rattle.runs.specs.Runs.{unbegun, stopped, runChecks, went, restOf, wholeChecks, afterOpening, wholeWent}
+
+-- ---- a run that ended before its first record
+
+-- t is what it hands back beside the arrays
+pub ended-first : {k : Settings} {number clock waiting : ℕ} {f : List Bool} {p a l s x area : List ℕ} {t : Tally} {w : Went}
+    → t ≡ record { count = 0; total = 0; answer = number; clock = clock; waiting = waiting } → stopped number (floor k clock waiting f p a l s x) area ≡ w
+    → record { count = t .count; total = t .total; out = record { answer = t .answer; floor = floor k (t .clock) (t .waiting) f p a l s x; area = area } } ≡ w
+ended-first {k} {f = f} {p} {a} {l} {s} {x} {area} is e =
+    ap (λ (y : Tally). let v : Went = record { count = y .count; total = y .total; out = record { answer = y .answer; floor = floor k (y .clock) (y .waiting) f p a l s x; area = area } } in v) is ∙ e
 
 -- ---- a run
 
@@ -116,30 +127,72 @@ module _ (area bytes : List ℕ) (r : Reading) (is : r ≡ readOf bytes) (sixtee
           ap (opened area) (none e) ∙ sym (open-3 area zeros long (wellFormed zeros) refl (not-eight (wellFormed zeros)) noFloor refl)
           ∙ open-3 area (actionOf bytes) long (wellFormed (actionOf bytes)) refl (rw (formed e)) noFloor refl
 
+-- ---- what follows an opening
+
+-- so many records are there
+pub after-fits : (bytes : List ℕ) → 16 ≤ length bytes → 16 * (length bytes / 16 - 1) ≤ length (take (length bytes - 16) (drop 16 bytes))
+after-fits bytes some = rw (tail bytes 16 some, length-drop 16 bytes) (omega arith)
+
+-- o is what the opening left
+module _ (o : Outcome) (bytes : List ℕ) where
+  pub after-stops : (o .answer ≡ 0 → ⊥) → unbegun o ≡ afterOpening o bytes
+  unfolding afterOpening
+  after-stops z = rw (ne-eqb (o .answer) 0 z)
+
+  pub after-runs : 16 ≤ length bytes → o .answer ≡ 0 → (r : Went) → r ≡ wentFrom (length bytes / 16 - 1) (o .floor) (o .area) (take (length bytes - 16) (drop 16 bytes)) 0 0 → r ≡ afterOpening o bytes
+  unfolding afterOpening
+  after-runs some z r e = rw (eq-eqb (o .answer) 0 z) (e ∙ ap (λ (b : List ℕ). wentFrom (length bytes / 16 - 1) (o .floor) (o .area) b 0 0) (tail bytes 16 some))
+
 -- ---- a whole sequence
 
 module _ (area bytes : List ℕ) where
-  whole-refused : (number : ℕ) → eqb number 0 ≡ false → firstOf (wholeChecks area bytes) ≡ number → stopped number noFloor area ≡ wholeWent area bytes
+  -- what the opening leaves, refused before it or not
+  abbrev opening : Outcome
+  opening =
+      let number = firstOf (wholeChecks area bytes) in
+      cond (eqb number 0) (opened area (actionOf (take 16 bytes))) (refusal number noFloor area)
+
+  -- a whole sequence is what follows its opening
+  follows : afterOpening opening bytes ≡ wholeWent area bytes
   unfolding wholeWent
-  whole-refused number some e = rw (e, some)
+  follows =
+      let number = firstOf (wholeChecks area bytes) in
+      ⊎-elim (λ e. rw e) (λ e. rw e (sym (after-stops (refusal number noFloor area) bytes (eqb-false number 0 e)))) (decided (eqb number 0))
+
+  pub whole-opened : (o : Outcome) → o ≡ opening → (w : Went) → w ≡ afterOpening o bytes → w ≡ wholeWent area bytes
+  whole-opened o is w e = e ∙ ap (λ (y : Outcome). afterOpening y bytes) is ∙ follows
+
+  -- refused before it opens
+  refused-first : (number : ℕ) → eqb number 0 ≡ false → firstOf (wholeChecks area bytes) ≡ number → (fl : Floor) → fl ≡ noFloor → refusal number fl area ≡ opening
+  refused-first number some e fl none = rw (e, some, none)
+
+  whole-refused : (number : ℕ) → eqb number 0 ≡ false → (fl : Floor) → refusal number fl area ≡ opening → stopped number fl area ≡ wholeWent area bytes
+  whole-refused number some fl e = whole-opened (refusal number fl area) e (stopped number fl area) (after-stops (refusal number fl area) bytes (not-zero number some))
 
   pub number-15 : length area ≢ mostNotes → firstOf (wholeChecks area bytes) ≡ 15
   unfolding wholeChecks
   number-15 h = area-fails area _ h
 
+  pub first-15 : length area ≢ mostNotes → (fl : Floor) → fl ≡ noFloor → refusal 15 fl area ≡ opening
+  first-15 h fl none = refused-first 15 refl (number-15 h) fl none
+
   pub whole-15 : length area ≢ mostNotes → (fl : Floor) → fl ≡ noFloor → stopped 15 fl area ≡ wholeWent area bytes
-  whole-15 h fl q = rw q (whole-refused 15 refl (number-15 h))
+  whole-15 h fl none = whole-refused 15 refl fl (first-15 h fl none)
 
   module _ (long : length area ≡ mostNotes) where
     ragged : firstOf (wholeChecks area bytes) ≡ firstOf (16 when (eqb (length bytes) 0 || not (eqb (length bytes % 16) 0)) ∷ [])
     unfolding wholeChecks
     ragged = area-passes area _ long
 
-    pub number-16 : (eqb (length bytes) 0 || not (eqb (length bytes % 16) 0)) ≡ true → firstOf (wholeChecks area bytes) ≡ 16
-    number-16 h = ragged ∙ first-fails 16 (eqb (length bytes) 0 || not (eqb (length bytes % 16) 0)) [] h
+    module _ (h : (eqb (length bytes) 0 || not (eqb (length bytes % 16) 0)) ≡ true) where
+      pub number-16 : firstOf (wholeChecks area bytes) ≡ 16
+      number-16 = ragged ∙ first-fails 16 (eqb (length bytes) 0 || not (eqb (length bytes % 16) 0)) [] h
 
-    pub whole-16 : (eqb (length bytes) 0 || not (eqb (length bytes % 16) 0)) ≡ true → (fl : Floor) → fl ≡ noFloor → stopped 16 fl area ≡ wholeWent area bytes
-    whole-16 h fl q = rw q (whole-refused 16 refl (number-16 h))
+      pub first-16 : (fl : Floor) → fl ≡ noFloor → refusal 16 fl area ≡ opening
+      first-16 fl none = refused-first 16 refl number-16 fl none
+
+      pub whole-16 : (fl : Floor) → fl ≡ noFloor → stopped 16 fl area ≡ wholeWent area bytes
+      whole-16 fl none = whole-refused 16 refl fl (first-16 fl none)
 
     module _ (h : (eqb (length bytes) 0 || not (eqb (length bytes % 16) 0)) ≡ false) where
       -- one record at least, and none cut short
@@ -153,29 +206,37 @@ module _ (area bytes : List ℕ) where
       pub number-0 : firstOf (wholeChecks area bytes) ≡ 0
       number-0 = ragged ∙ first-passes 16 (eqb (length bytes) 0 || not (eqb (length bytes % 16) 0)) [] h ∙ first-none
 
-      first : wholeWent area bytes ≡ afterOpening (opened area (actionOf (take 16 bytes))) bytes
-      unfolding wholeWent
-      first = rw (eq-eqb (firstOf (wholeChecks area bytes)) 0 number-0)
-
       -- o is what the opening left
       module _ (o : Outcome) (is : o ≡ opened area (actionOf (take 16 bytes))) where
-        pub whole-stops : (o .answer ≡ 0 → ⊥) → unbegun o ≡ wholeWent area bytes
-        unfolding afterOpening
-        whole-stops z = sym (first ∙ rw (← is, ne-eqb (o .answer) 0 z))
+        pub first-0 : o ≡ opening
+        first-0 = rw (eq-eqb (firstOf (wholeChecks area bytes)) 0 number-0) is
 
-        -- what the records after the opening are carried out on
-        pub whole-ready : o .answer ≡ 0 → (inShapeAt (o .floor) (o .area) ≡ true) × (length (o .area) ≡ mostNotes) × (16 * (length bytes / 16 - 1) ≤ length (take (length bytes - 16) (drop 16 bytes)))
-        whole-ready z =
-            let x = actionOf (take 16 bytes) in
-            let fit : Fit (o .floor) (o .area) =
-            subst (λ (y : Outcome). Fit (y .floor) (y .area)) (sym is) (opened-fit area x (ap (λ (y : Outcome). y .answer) (sym is) ∙ z))
-            in
-            let (more, even) = records-there in
-            (fit-shape (o .floor) (o .area) fit, fit .exact, rw (tail bytes 16 more, length-drop 16 bytes) (omega arith))
+        pub whole-stops : (o .answer ≡ 0 → ⊥) → unbegun o ≡ wholeWent area bytes
+        whole-stops z = whole-opened o first-0 (unbegun o) (after-stops o bytes z)
 
         pub whole-runs : o .answer ≡ 0 → (r : Went) → r ≡ wentFrom (length bytes / 16 - 1) (o .floor) (o .area) (take (length bytes - 16) (drop 16 bytes)) 0 0 → r ≡ wholeWent area bytes
-        unfolding afterOpening
-        whole-runs z r e = sym (first ∙ rw (← is, eq-eqb (o .answer) 0 z) (sym (e ∙ ap (λ (b : List ℕ). wentFrom (length bytes / 16 - 1) (o .floor) (o .area) b 0 0) (tail bytes 16 (records-there .0)))))
+        whole-runs z r e = whole-opened o first-0 r (after-runs o bytes (records-there .0) z r e)
+
+  -- what the records after an opening are carried out on, where it was not refused
+  abbrev Begun : Outcome → Type 0
+  Begun o = o .answer ≡ 0 → (inShapeAt (o .floor) (o .area) ≡ true) × (length (o .area) ≡ mostNotes) × (16 ≤ length bytes)
+
+  pub whole-ready : (o : Outcome) → o ≡ opening → Begun o
+  unfolding wholeChecks
+  whole-ready o is = subst Begun (sym is) (cond-both Begun (eqb number 0) (opened area x) (refusal number noFloor area) made (λ e z. absurd (eqb-false number 0 e z)))
+    where
+      number : ℕ
+      number = firstOf (wholeChecks area bytes)
+
+      x : Action
+      x = actionOf (take 16 bytes)
+
+      made : eqb number 0 ≡ true → Begun (opened area x)
+      made e z =
+          let clear = zero-passed (wholeChecks area bytes) (not-zero 15 refl, (not-zero 16 refl, tt)) (eqb-true number 0 e) in
+          let fit : Fit (opened area x .floor) (opened area x .area) = opened-fit area x z in
+          let long : length area ≡ mostNotes = eqb-true (length area) mostNotes (not-false (eqb (length area) mostNotes) (clear .0)) in
+          (fit-shape (opened area x .floor) (opened area x .area) fit, fit .exact, records-there long (clear .1 .0) .0)
 
   -- what holds where there is no floor, and of the run after an opening, holds of a whole sequence
   pub whole-either : (Q : Went → Type 0)

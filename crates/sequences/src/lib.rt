@@ -9,6 +9,7 @@ ghost use Prim.Native.Nat.{_≤_, _*_};
 ghost use lib.ListN.{length};
 ghost use Rattle.rules.specs.Rules.{mostNotes};
 ghost use Rattle.records.specs.Records.{actionOf};
+ghost use Rattle.floors.specs.Bridge.{floor, Sized};
 ghost use Rattle.shapes.specs.Shape.{inShapeAt};
 ghost use Rattle.moves.specs.Moves.{Ready, held, left, toldAt};
 ghost use Rattle.kinds.specs.Kinds.{moveOf};
@@ -58,23 +59,42 @@ fn step_record(
     )
 }
 
-// At most `limit` records of the sequence, up to the first that is refused. The floor is taken apart once for all of them.
-pub fn run_records(floor: Floor, area: &mut [u64], sequence: &[u8], limit: usize) -> Ran
-    requires { ⌜ (inShapeAt floor (now area) ≡ true) × (length (now area) ≡ mostNotes) × (16 * limit ≤ length (now sequence)) ⌝ }
-    ensures { λ r. ⌜ record { count = r .count; total = r .total; out = record { answer = r .answer; floor = r .floor; area = now (area .exit) } } ≡ wentFrom limit floor (now (area .entry)) (now (sequence .entry)) 0 0 ⌝ }
+// What a run hands back beside the arrays: how many records were carried out and how many of them added a source, the last
+// number, and the two numbers of the floor that an action may change.
+pub struct Tally {
+    pub count: usize,
+    pub total: usize,
+    pub answer: u8,
+    pub clock: u32,
+    pub waiting: usize,
+}
+
+// At most `limit` records of the sequence, up to the first that is refused, on a floor that is taken apart.
+pub fn run_records(
+    settings: Settings,
+    clock: u32,
+    waiting: usize,
+    sequence: &[u8],
+    limit: usize,
+    faulty: &mut [bool; 16],
+    pass: &mut [u32; 16],
+    accept: &mut [u32; 16],
+    listed: &mut [u64; 16],
+    sent: &mut [u64; 16],
+    received: &mut [u16; 1024],
+    area: &mut [u64],
+) -> Tally
+    requires { ⌜ (inShapeAt (floor settings clock waiting (now faulty) (now pass) (now accept) (now listed) (now sent) (now received)) (now area) ≡ true)
+        × Sized (floor settings clock waiting (now faulty) (now pass) (now accept) (now listed) (now sent) (now received))
+        × (length (now area) ≡ mostNotes) × (16 * limit ≤ length (now sequence)) ⌝ }
+    ensures { λ r. ⌜ record { count = r .count; total = r .total; out = record { answer = r .answer; floor = floor settings (r .clock) (r .waiting) (now (faulty .exit)) (now (pass .exit)) (now (accept .exit)) (now (listed .exit)) (now (sent .exit)) (now (received .exit)); area = now (area .exit) } }
+        ≡ wentFrom limit (floor settings clock waiting (now (faulty .entry)) (now (pass .entry)) (now (accept .entry)) (now (listed .entry)) (now (sent .entry)) (now (received .entry))) (now (area .entry)) (now (sequence .entry)) 0 0 ⌝ }
 {
-    let settings = floor.settings;
-    let mut faulty = floor.faulty;
-    let mut pass = floor.pass;
-    let mut accept = floor.accept;
-    let mut listed = floor.listed;
-    let mut sent = floor.sent;
-    let mut received = floor.received;
     let mut head = Head {
         answer: 0,
         new: false,
-        clock: floor.clock,
-        waiting: floor.waiting,
+        clock: clock,
+        waiting: waiting,
     };
     let mut count: usize = 0;
     let mut total: usize = 0;
@@ -85,12 +105,12 @@ pub fn run_records(floor: Floor, area: &mut [u64], sequence: &[u8], limit: usize
             settings,
             head,
             &sequence[at..end],
-            &mut faulty,
-            &mut pass,
-            &mut accept,
-            &mut listed,
-            &mut sent,
-            &mut received,
+            faulty,
+            pass,
+            accept,
+            listed,
+            sent,
+            received,
             area,
         );
         if head.answer != 0 {
@@ -99,20 +119,11 @@ pub fn run_records(floor: Floor, area: &mut [u64], sequence: &[u8], limit: usize
         count += 1;
         total += head.new as usize;
     }
-    Ran {
+    Tally {
         count: count,
         total: total,
         answer: head.answer,
-        floor: Floor {
-            settings: settings,
-            clock: head.clock,
-            waiting: head.waiting,
-            faulty: faulty,
-            pass: pass,
-            accept: accept,
-            listed: listed,
-            sent: sent,
-            received: received,
-        },
+        clock: head.clock,
+        waiting: head.waiting,
     }
 }

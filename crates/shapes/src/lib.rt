@@ -1,6 +1,5 @@
 // The shape of a floor handed in, looked at where it lies: one walk over the notes and one over the desks. No desk and
 // no array is copied.
-use floors::Floor;
 use floors::Settings;
 use sets::DeskSet;
 use sets::EntrySet;
@@ -148,30 +147,4 @@ pub fn in_shape(
     }
     notes::all_in_shape(&area[..waiting], settings.n, settings.u, settings.m, clock)
         & desks_in_shape(settings, faulty, pass, accept, listed, sent, received)
-}
-
-// Whether a floor handed in as a whole is in shape.
-pub fn floor_in_shape(floor: Floor, area: &[u64]) -> bool
-    requires { ⌜ length (now area) ≡ mostNotes ⌝ }
-    ensures { λ r. ⌜ r ≡ inShapeAt floor (now (area .entry)) ⌝ }
-{
-    let settings = floor.settings;
-    let faulty = floor.faulty;
-    let pass = floor.pass;
-    let accept = floor.accept;
-    let listed = floor.listed;
-    let sent = floor.sent;
-    let received = floor.received;
-    in_shape(
-        settings,
-        floor.clock,
-        floor.waiting,
-        &faulty,
-        &pass,
-        &accept,
-        &listed,
-        &sent,
-        &received,
-        area,
-    )
 }

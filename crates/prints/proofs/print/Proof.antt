@@ -1,22 +1,28 @@
 -- `prints::print` meets its contract. Assumes nothing.
 use borrow.Author.Needs.{needs}
-use Rattle.prints.proofs.PrintLaws.{print-refused, print-marks}
+use Rattle.holds.proofs.HoldLaws.{SizedHold}
+use Rattle.prints.proofs.PrintLaws.{print-by}
 use Rattle.prints.proofs.print.Statement.{statement}
 use Rattle.prints.proofs.print.Tie as tie
 
-may-print-requires : tie.Need-may-print-requires
-may-print-requires c κs = search needs
+-- what is known of the floor's arrays is named, since a search from c does not come to the last of them
+sized : (c : tie.Start) → SizedHold (c .args .hold)
+sized c =
+    let arrays = c .good .0 .1 .1 .0 .1 .1 .1 .1 .1 in
+    (record { faulty = search needs; pass = search needs; accept = search needs; listed = search needs; sent = search needs; received = search needs }, search needs, search needs)
+
+-- the function's beginning, before the hold is taken apart
+abbrev start : tie.After-noted2 → tie.Start
+start c = c .before .before .before .before .before .before .before .before .before .before .before .before .before .before .before .before .before .before .before .before
+
+may-print-on-requires : tie.Need-may-print-on-requires
+may-print-on-requires c κs = sized (start c)
+
+printed-after-requires : tie.Need-printed-after-requires
+printed-after-requires c κs = search needs
 
 returns : tie.Need-returns
-returns c = search print-refused
-
-with-requires : tie.Need-with-requires
-with-requires c κs = search needs
-
-returns-2 : tie.Need-returns-2
-returns-2 c =
-    let may = c .before .before .before in
-    print-marks _ _ _ _ (may .may-print .ensures) (c .before .before .if1 .left) _ (c .with .ensures)
+returns c = print-by _ _ _ _ (c .before .may-print-on .ensures) _ (c .printed-after .ensures)
 
 pub print-spec : {M : Type 1} → statement M
-print-spec = tie.close (tie.spec may-print-requires returns with-requires returns-2)
+print-spec = tie.close (tie.spec may-print-on-requires printed-after-requires returns)

@@ -2,10 +2,8 @@
 use mathlib.Core.Path.{sym, _∙_}
 use Prim.Native.Nat.{_-_}
 use native.Mathlib.Omega.{arith}
-use borrow.Author.Needs.{needs}
 use Rattle.sets.proofs.CountLaws.{bit-le}
-use Rattle.floors.specs.Bridge.{Sized}
-use Rattle.moves.specs.Moves.{held}
+use Rattle.floors.specs.Bridge.{floor}
 use Rattle.sequences.specs.Sequences.{wentFrom}
 use Rattle.actions.proofs.Calls.{fit-start}
 use Rattle.sequences.proofs.SequenceLaws.{Going, going-start, going-ready, going-end, going-next, going-stop, going-long, part-is, part-long}
@@ -13,32 +11,29 @@ use Rattle.sequences.proofs.run_records.Statement.{statement}
 use Rattle.sequences.proofs.run_records.Tie as tie
 
 abbrev Inv-loop : tie.InvT-loop
-Inv-loop area₀ sequence limit settings faulty₀ pass₀ accept₀ listed₀ sent₀ received₀ head₀ count₀ total₀ area faulty pass accept listed sent received head count total =
-    Going settings limit sequence (wentFrom limit (held settings head₀ faulty₀ pass₀ accept₀ listed₀ sent₀ received₀) area₀ sequence 0 0) head faulty pass accept listed sent received area count total
+Inv-loop settings clock waiting sequence limit faulty₀ pass₀ accept₀ listed₀ sent₀ received₀ area₀ head₀ count₀ total₀ faulty pass accept listed sent received area head count total =
+    Going settings limit sequence (wentFrom limit (floor settings clock waiting faulty₀ pass₀ accept₀ listed₀ sent₀ received₀) area₀ sequence 0 0) head faulty pass accept listed sent received area count total
 
 abbrev μ-loop : tie.MeasureT-loop
-μ-loop area₀ sequence limit settings faulty₀ pass₀ accept₀ listed₀ sent₀ received₀ head₀ count₀ total₀ area faulty pass accept listed sent received head count total = limit - count
-
-sized : (c : tie.Start Inv-loop μ-loop) → Sized (c .args .floor)
-sized c = record { faulty = search needs; pass = search needs; accept = search needs; listed = search needs; sent = search needs; received = search needs }
+μ-loop settings clock waiting sequence limit faulty₀ pass₀ accept₀ listed₀ sent₀ received₀ area₀ head₀ count₀ total₀ faulty pass accept listed sent received area head count total = limit - count
 
 -- the place where the loop begins, and the function's
 abbrev begun : tie.At-loop Inv-loop μ-loop → tie.Start Inv-loop μ-loop
-begun c = c .before .before .before .before .before .before .before .before .before .before
+begun c = c .before .before .before
 
 abbrev turned : tie.After-step-record Inv-loop μ-loop → tie.In-loop Inv-loop μ-loop
 turned c = c .before .before .before .before .before .before .before .before .before
 
 loop-holds : tie.Need-loop-holds Inv-loop μ-loop
 loop-holds c =
-    let start = c .before .before .before .before .before .before .before .before .before in
-    going-start (start .args .floor) _ _ _ (fit-start (start .args .floor) _ (start .pre .0) (sized start) (start .pre .1))
+    let start = c .before .before in
+    going-start _ _ _ _ (fit-start _ _ (start .pre .0) (start .pre .1) (start .pre .2))
 
 mul-at : tie.Need-mul-at Inv-loop μ-loop
-mul-at c = omega (arith, begun (c .before) .pre .2, c .loop-test .taken)
+mul-at c = omega (arith, begun (c .before) .pre .3, c .loop-test .taken)
 
 add-end : tie.Need-add-end Inv-loop μ-loop
-add-end c = omega (arith, begun (c .before) .pre .2, c .loop-test .taken)
+add-end c = omega (arith, begun (c .before) .pre .3, c .loop-test .taken)
 
 sub-step-record : tie.Need-sub-step-record Inv-loop μ-loop
 sub-step-record c = omega arith
@@ -47,13 +42,13 @@ part-step-record-start : tie.Need-part-step-record-start Inv-loop μ-loop
 part-step-record-start c = omega arith
 
 part-step-record-end : tie.Need-part-step-record-end Inv-loop μ-loop
-part-step-record-end c = omega (arith, begun (c .before) .pre .2, c .loop-test .taken)
+part-step-record-end c = omega (arith, begun (c .before) .pre .3, c .loop-test .taken)
 
 step-record-requires : tie.Need-step-record-requires Inv-loop μ-loop
 step-record-requires c κs =
     let turn = c .before .before .before .before .before .before .before .before in
     let at = turn .before .loop in
-    (going-ready _ _ _ _ _ _ _ _ _ _ _ _ _ _ (at .inv), part-long _ (at .count) (omega (arith, begun (turn .before) .pre .2, turn .loop-test .taken)))
+    (going-ready _ _ _ _ _ _ _ _ _ _ _ _ _ _ (at .inv), part-long _ (at .count) (omega (arith, begun (turn .before) .pre .3, turn .loop-test .taken)))
 
 add-count : tie.Need-add-count Inv-loop μ-loop
 add-count c =
@@ -82,7 +77,7 @@ loop-again c =
     going-next _ _ _ _ _ _ _ _ _ _ _ _ (at .count) (at .total) (at .inv) _ (part-is _ (at .count)) _ _ _ _ _ _ _ _ (turn .loop-test .taken) (done .step-record .ensures) (c .before .if1 .left)
 
 same-length : tie.Need-same-length Inv-loop μ-loop
-same-length c = c .before .loop .inv .fit .exact ∙ sym (begun (c .before) .pre .1)
+same-length c = c .before .loop .inv .fit .exact ∙ sym (begun (c .before) .pre .2)
 
 returns : tie.Need-returns Inv-loop μ-loop
 returns c = going-end _ _ _ _ _ _ _ _ _ _ _ _ _ _ (c .before .loop .inv) (c .loop-test .left)
@@ -93,7 +88,7 @@ same-length-2 c =
     let turn = turned done in
     let at = turn .before .loop in
     going-long _ _ _ _ _ _ _ _ _ _ _ _ (at .count) (at .total) (at .inv) _ (part-is _ (at .count)) _ _ _ _ _ _ _ _ (turn .loop-test .taken) (done .step-record .ensures)
-    ∙ at .inv .fit .exact ∙ sym (begun (turn .before) .pre .1)
+    ∙ at .inv .fit .exact ∙ sym (begun (turn .before) .pre .2)
 
 returns-2 : tie.Need-returns-2 Inv-loop μ-loop
 returns-2 c =

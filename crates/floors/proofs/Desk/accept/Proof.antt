@@ -18,6 +18,9 @@ abbrev μ-loop : tie.MeasureT-loop
 sub-enough : tie.Need-sub-enough Inv-loop μ-loop
 sub-enough c = omega arith
 
+entries-of-requires : tie.Need-entries-of-requires Inv-loop μ-loop
+entries-of-requires c κs = omega arith
+
 loop-holds : tie.Need-loop-holds Inv-loop μ-loop
 loop-holds c = (omega arith, sym (insertAll-zero _ _))
 
@@ -47,8 +50,8 @@ loop-again c = (omega arith, gather _ _ _ _ _ _ _ (omega arith) (c .before .befo
 
 returns : tie.Need-returns Inv-loop μ-loop
 returns c =
-    let S = c .before .before .before .before in
+    let S = c .before .before .before .before .before in
     rw (ripe-end (S .args .settings) (S .args .number .0) (S .args .t1) _ _ _ (c .before .loop .inv .1) (omega arith) (omega arith))
 
 pub accept-spec : {M : Type 1} → statement M
-accept-spec = tie.close (tie.spec Inv-loop μ-loop sub-enough loop-holds cast-at mul-t14 element-copy-out-t17 is-ripe-requires with-if-requires add-e loop-less loop-again returns)
+accept-spec = tie.close (tie.spec Inv-loop μ-loop sub-enough entries-of-requires loop-holds cast-at mul-t14 element-copy-out-t17 is-ripe-requires with-if-requires add-e loop-less loop-again returns)

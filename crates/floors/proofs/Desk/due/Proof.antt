@@ -15,6 +15,9 @@ Inv-loop settings self u heard₀ e₀ heard e = (e ≤ u) × (u ≡ settings .u
 abbrev μ-loop : tie.MeasureT-loop
 μ-loop settings self u heard₀ e₀ heard e = u - e
 
+entries-of-requires : tie.Need-entries-of-requires Inv-loop μ-loop
+entries-of-requires c κs = omega arith
+
 empty-requires : tie.Need-empty-requires Inv-loop μ-loop
 empty-requires c κs = omega arith
 
@@ -55,4 +58,4 @@ returns c =
 
 pub due-spec : {M : Type 1} → statement M
 due-spec =
-    tie.close (tie.spec Inv-loop μ-loop empty-requires loop-holds cast-at mul-t11 element-copy-out-t14 is-heard-requires with-if-requires add-e loop-less loop-again unsent-requires returns)
+    tie.close (tie.spec Inv-loop μ-loop entries-of-requires empty-requires loop-holds cast-at mul-t11 element-copy-out-t14 is-heard-requires with-if-requires add-e loop-less loop-again unsent-requires returns)
