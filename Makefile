@@ -1,5 +1,5 @@
 # README.md says what each command is for. The gate's last line is its verdict, so its recipe prints nothing of its own.
-.PHONY: run hold picture test check compare bench fmt
+.PHONY: run hold picture test check compare bench stack fmt
 
 # The sequence that the program is run on: make run SEQ=file
 SEQ = examples/first-look/sequence.seq
@@ -39,6 +39,11 @@ ROUNDS = 50
 
 bench:
 	@tests/bench/run $(ROUNDS)
+
+# How much stack the public calls take.
+stack:
+	@rt check calls >&2
+	@tests/stack/run
 
 fmt:
 	@rt fmt
