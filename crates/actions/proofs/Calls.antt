@@ -157,25 +157,24 @@ module _ (fl : Floor) (area : List ℕ) (x : Action) where
     pub act-next : (stateOf (o .floor) (o .area) ≡ next (stateOf fl area) (moveOf x)) × Fit (o .floor) (o .area)
     act-next = subst (λ (q : Outcome). (stateOf (q .floor) (q .area) ≡ next (stateOf fl area) (moveOf x)) × Fit (q .floor) (q .area)) act-out (step-next fl area (moveOf x) fit)
 
+  -- it is refused, with 15 or with 1, or it is a step on a floor that one may be made on
+  act-either : Sized fl → (Q : Told → Type 0) → ((number : ℕ) → Q (noneNew (refusal number fl area))) → (Fit fl area → Q (toldAt fl area (moveOf x))) → Q (acted fl area x)
+  act-either sized Q refuses steps =
+      call-either fl area sized (λ short. subst Q (act-15 short) (refuses 15)) (λ long s. subst Q (act-1 long false (sym s) refl) (refuses 1))
+      (λ fit. subst Q (act-fits fit) (steps fit))
+
   -- the arrays keep their lengths
   pub act-sized : Sized fl → Sized (acted fl area x .out .floor)
   act-sized sized =
-      call-either fl area sized (λ short. refuses 15 (act-15 short)) (λ long s. refuses 1 (act-1 long false (sym s) refl)) (λ fit. act-next fit .1 .sized)
-    where
-      refuses : (number : ℕ) → noneNew (refusal number fl area) ≡ acted fl area x → Sized (acted fl area x .out .floor)
-      refuses number e = subst (λ (t : Told). Sized (t .out .floor)) e sized
+      act-either sized (λ (t : Told). Sized (t .out .floor)) (λ number. sized)
+      (λ fit. subst (λ (o : Outcome). Sized (o .floor)) (sym (told-out fl area (moveOf x))) (step-next fl area (moveOf x) fit .1 .sized))
 
   -- what is told of an action is the source that all sets together have grown by
   abbrev Added : Told → Type 0
   Added t = sizes (t .out .floor .received) ≡ sizes (fl .received) + bit (t .new)
 
   acted-added : Sized fl → Added (acted fl area x)
-  acted-added sized =
-      call-either fl area sized (λ short. refuses 15 (act-15 short)) (λ long s. refuses 1 (act-1 long false (sym s) refl))
-      (λ fit. subst Added (act-fits fit) (told-added fl area (moveOf x) fit))
-    where
-      refuses : (number : ℕ) → noneNew (refusal number fl area) ≡ acted fl area x → Added (acted fl area x)
-      refuses number e = subst Added e (omega arith)
+  acted-added sized = act-either sized Added (λ number. omega arith) (told-added fl area (moveOf x))
 
   pub act-added : Sized fl → (t : Told) → t ≡ acted fl area x → (t ≡ acted fl area x) × Added t
   act-added sized t e = with-result Added (acted-added sized) e

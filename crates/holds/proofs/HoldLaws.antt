@@ -113,46 +113,49 @@ module _ (h : Hold) (area : List ℕ) (x : Action) where
           pub took-announced : (announcers noted : List ℕ) → (announcers ≡ noting .announcers) × (noted ≡ noting .noted) → telling t announcers noted ≡ took h area x
           took-announced announcers noted (p, q) = rw (p, q) (sym (taken ∙ ap with-hold (cond-true announced noting (withFloor h (t .out .floor)) z)))
 
--- whatever is noted, the floor is the library's
-pub taking-floor : (h : Hold) (x : Action) (o : Outcome) → let q = taking h x o in record { answer = q .answer; floor = q .hold .floor; area = q .area } ≡ o
-taking-floor h x o =
-    cond-both (λ (q : Hold). let r : Outcome = record { answer = o .answer; floor = q .floor; area = o .area } in r ≡ o) (eqb (o .answer) 0 && eqb (x .kind) 1)
-    (announcing h (o .floor) (x .desk .0) (x .entry .0)) (withFloor h (o .floor)) (λ t. refl) (λ f. refl)
+-- ---- what an action leaves as it was
 
--- what was refused has changed nothing
-pub took-still : (h : Hold) (area : List ℕ) (x : Action) → took h area x .answer ≢ 0 → took h area x ≡ refusing (took h area x .answer) h area
-unfolding took
-took-still h area x =
-    let number = firstOf (wrongArea area ∷ notedOutOfShape h ∷ []) in
-    let o = acted (h .floor) area x .out in
-    cond-both (λ (q : Holding). q .answer ≢ 0 → q ≡ refusing (q .answer) h area) (eqb number 0) (taking h x o) (refusing number h area)
-    (λ e z. ap (taking h x) (act-refused (h .floor) area x z) ∙ rw (ne-eqb (o .answer) 0 z) refl)
-    (λ e z. refl)
-
--- an action prints nothing
-pub took-printed : (h : Hold) (area : List ℕ) (x : Action) → took h area x .hold .printed ≡ h .printed
-unfolding took
-took-printed h area x =
-    let number = firstOf (wrongArea area ∷ notedOutOfShape h ∷ []) in
-    let o = acted (h .floor) area x .out in
-    cond-both (λ (q : Holding). q .hold .printed ≡ h .printed) (eqb number 0) (taking h x o) (refusing number h area)
-    (λ e. cond-both (λ (q : Hold). q .printed ≡ h .printed) (eqb (o .answer) 0 && eqb (x .kind) 1) (announcing h (o .floor) (x .desk .0) (x .entry .0)) (withFloor h (o .floor)) (λ t. refl) (λ f. refl))
-    (λ e. refl)
-
--- the arrays have the lengths that their types say, and keep them
+-- the arrays have the lengths that their types say
 abbrev pub SizedHold : Hold → Type 0
 SizedHold h = Sized (h .floor) × (length (h .announcers) ≡ 64) × (length (h .noted) ≡ 64)
 
-pub took-sized : (h : Hold) (area : List ℕ) (x : Action) → SizedHold h → SizedHold (took h area x .hold)
-unfolding took
-took-sized h area x (sized, announcers, noted) =
-    let number = firstOf (wrongArea area ∷ notedOutOfShape h ∷ []) in
-    let o = acted (h .floor) area x .out in
-    let fl = act-sized (h .floor) area x sized in
-    cond-both (λ (q : Holding). SizedHold (q .hold)) (eqb number 0) (taking h x o) (refusing number h area)
-    (λ e. cond-both SizedHold (eqb (o .answer) 0 && eqb (x .kind) 1) (announcing h (o .floor) (x .desk .0) (x .entry .0)) (withFloor h (o .floor))
-    (λ t. (fl, rw length-set announcers, rw length-set noted)) (λ f. (fl, announcers, noted)))
-    (λ e. (sized, announcers, noted))
+module _ (h : Hold) (x : Action) (o : Outcome) where
+  -- the hold has the library's floor, and notes the announcement or nothing
+  taking-either : (Q : Hold → Type 0) → Q (announcing h (o .floor) (x .desk .0) (x .entry .0)) → Q (withFloor h (o .floor)) → Q (taking h x o .hold)
+  taking-either Q noted same =
+      cond-both Q (eqb (o .answer) 0 && eqb (x .kind) 1) (announcing h (o .floor) (x .desk .0) (x .entry .0)) (withFloor h (o .floor)) (λ t. noted) (λ f. same)
+
+  -- whatever is noted, the floor is the library's
+  pub taking-floor : let q = taking h x o in record { answer = q .answer; floor = q .hold .floor; area = q .area } ≡ o
+  taking-floor = taking-either (λ (q : Hold). let r : Outcome = record { answer = o .answer; floor = q .floor; area = o .area } in r ≡ o) refl refl
+
+module _ (h : Hold) (area : List ℕ) (x : Action) where
+  abbrev by-library : Outcome
+  by-library = acted (h .floor) area x .out
+
+  -- it is refused by the hold's own checks, or it is the library's
+  took-either : (Q : Holding → Type 0) → ((number : ℕ) → Q (refusing number h area)) → Q (taking h x by-library) → Q (took h area x)
+  unfolding took
+  took-either Q refuses takes =
+      let number = firstOf (wrongArea area ∷ notedOutOfShape h ∷ []) in
+      cond-both Q (eqb number 0) (taking h x by-library) (refusing number h area) (λ e. takes) (λ e. refuses number)
+
+  -- what was refused has changed nothing
+  pub took-still : took h area x .answer ≢ 0 → took h area x ≡ refusing (took h area x .answer) h area
+  took-still =
+      took-either (λ (q : Holding). q .answer ≢ 0 → q ≡ refusing (q .answer) h area) (λ number z. refl)
+      (λ z. ap (taking h x) (act-refused (h .floor) area x z) ∙ rw (ne-eqb (by-library .answer) 0 z) refl)
+
+  -- an action prints nothing
+  pub took-printed : took h area x .hold .printed ≡ h .printed
+  took-printed = took-either (λ (q : Holding). q .hold .printed ≡ h .printed) (λ number. refl) (taking-either h x by-library (λ (q : Hold). q .printed ≡ h .printed) refl refl)
+
+  -- the arrays keep their lengths
+  pub took-sized : SizedHold h → SizedHold (took h area x .hold)
+  took-sized (sized, announcers, noted) =
+      let fl = act-sized (h .floor) area x sized in
+      took-either (λ (q : Holding). SizedHold (q .hold)) (λ number. (sized, announcers, noted))
+      (taking-either h x by-library SizedHold (fl, rw length-set announcers, rw length-set noted) (fl, announcers, noted))
 
 -- what asks for no action is refused alike
 pub took-unknown : (h : Hold) (area : List ℕ) (x y : Action) → moveOf x ≡ unknown → moveOf y ≡ unknown → took h area x ≡ took h area y

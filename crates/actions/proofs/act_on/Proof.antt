@@ -11,9 +11,6 @@ use Rattle.actions.proofs.act_on.Tie as tie
 abbrev formed : tie.After-step-arg7 → tie.Else3
 formed c = c .before .before .before .before .before .before .before
 
-abbrev shaped : tie.After-well-formed → tie.Else2
-shaped c = c .before
-
 abbrev inside : tie.After-in-shape-arg7 → tie.Else1
 inside c = c .before .before .before .before .before .before .before
 
@@ -52,11 +49,11 @@ same-length-2 c = search needs
 
 returns-3 : tie.Need-returns-3
 returns-3 c =
-    let formed = c .before .before in
-    let looked = formed .before .before in
+    let read = c .before .before in
+    let looked = read .before .before in
     let first = inside (looked .before) in
     says-no _ (start first .args .head) _ _ _ _ _ _ _ _ 3 (c .answered3 .ensures) _
-    (act-3 _ _ _ (first .if1 .left) _ (looked .in-shape .ensures) (formed .before .if2 .left) _ (formed .well-formed .ensures) (c .before .if3 .taken))
+    (act-3 _ _ _ (first .if1 .left) _ (looked .in-shape .ensures) (read .before .if2 .left) _ (read .well-formed .ensures) (c .before .if3 .taken))
 
 step-requires : tie.Need-step-requires
 step-requires c κs =
