@@ -106,7 +106,8 @@ class Floor:
     def accept(self, desk):
         self.look([desk], [])
         self.accept_timer[desk] = 0
-        self.listed[desk].update(e for e in range(self.u) if len(self.received[desk][e]) >= self.n - self.f)
+        heard = self.received[desk]
+        self.listed[desk].update(e for e in range(self.u) if len(heard[e]) >= self.n - self.f and desk in heard[e])
 
     def receive(self, desk, source, entry):
         self.look([desk, source], [entry])

@@ -173,14 +173,15 @@ module _ (k : Settings) (e : ℕ) where
             (λ many. pass-marks s j (within j (live .0)) e entry-below (le-trans many wide))
             (λ p. pace s j (live .0) long m p .pass)
 
-        -- every live desk's note is there: at most f desks are not live, so n − f sources are received
+        -- every live desk's note is there: at most f desks are not live, so n − f sources are received, and the desk's own is one of them
         accepts : (next s m .clock + deskAt s j .accept ≡ s .clock + deskAt (next s m) j .accept)
             ⊎ ((next s m .clock ≡ s .clock) × (((i : ℕ) → Live s i → heard i ≡ true) → Listed e (next s m) j))
         accepts =
             paced (λ d. d .accept) (accept j) (λ z. ((i : ℕ) → Live s i → heard i ≡ true) → Listed e z j) refl
             (λ all. accept-lists s j (within j (live .0)) e entry-below
             (ripe-enough (s .settings) (deskAt s j) e j
-            (le-trans (reaches (s .settings .n) (s .settings .f) (λ i. deskAt s i .faulty) (g .shape .few) (sources (deskAt s j) e) (λ i l good. all i (l, good))) wide)))
+            (le-trans (reaches (s .settings .n) (s .settings .f) (λ i. deskAt s i .faulty) (g .shape .few) (sources (deskAt s j) e) (λ i l good. all i (l, good))) wide)
+            (all j live)))
             (λ p. pace s j (live .0) long m p .accept)
 
     -- THE LAWS OF THE RULES

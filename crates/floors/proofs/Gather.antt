@@ -17,20 +17,27 @@ use Rattle.floors.specs.Bridge.{settingsOf, readOf}
 use Rattle.floors.specs.declared.Settings.{Settings}
 use Rattle.floors.specs.declared.Desk.{Desk}
 
--- the test of an entry by the number of its sources
+-- the test of an entry by the set of its sources
 unfoldable pub bySources : (ℕ → Bool) → List ℕ → ℕ → Bool
-bySources enough received e = enough (size 16 (getD received e 0))
+bySources test received e = test (getD received e 0)
+
+-- the two tests of a set: it has more than f; it has so many, and desk j among them
+abbrev pub moreThan : ℕ → ℕ → Bool
+moreThan f set = ltb f (size 16 set)
+
+abbrev pub enoughWith : ℕ → ℕ → ℕ → Bool
+enoughWith enough j set = leb enough (size 16 set) && member set j
 
 -- a turn at entry e, which b says to put in or not
-pub gather : (enough : ℕ → Bool) (received : List ℕ) (first e set set′ : ℕ) (b : Bool) → e < 64 → set ≡ insertAll (bySources enough received) first e
-    → b ≡ enough (size 16 (getD received e 0)) → set′ ≡ cond b (insertBelow 64 set e) set → set′ ≡ insertAll (bySources enough received) first (e + 1)
+pub gather : (test : ℕ → Bool) (received : List ℕ) (first e set set′ : ℕ) (b : Bool) → e < 64 → set ≡ insertAll (bySources test received) first e
+    → b ≡ test (getD received e 0) → set′ ≡ cond b (insertBelow 64 set e) set → set′ ≡ insertAll (bySources test received) first (e + 1)
 unfolding bySources
-gather enough received first e set set′ true l inv t s =
-    s ∙ insertBelow-low 64 set e l ∙ ap (λ (x : ℕ). insert x e) inv ∙ sym (insertAll-take (bySources enough received) first e (sym t))
-gather enough received first e set set′ false l inv t s = s ∙ inv ∙ sym (insertAll-skip (bySources enough received) first e (sym t))
+gather test received first e set set′ true l inv t s =
+    s ∙ insertBelow-low 64 set e l ∙ ap (λ (x : ℕ). insert x e) inv ∙ sym (insertAll-take (bySources test received) first e (sym t))
+gather test received first e set set′ false l inv t s = s ∙ inv ∙ sym (insertAll-skip (bySources test received) first e (sym t))
 
 -- the entries that were heard enough, less those that were sent, are those that are due
-pub due-end : (k : Settings) (d : Desk) (e set left : ℕ) → set ≡ insertAll (bySources (ltb (k .f)) (d .received)) 0 e → e ≡ k .u → left ≡ bitOr set (d .sent .0) - d .sent .0
+pub due-end : (k : Settings) (d : Desk) (e set left : ℕ) → set ≡ insertAll (bySources (moreThan (k .f)) (d .received)) 0 e → e ≡ k .u → left ≡ bitOr set (d .sent .0) - d .sent .0
     → left ≡ insertAll (due (settingsOf k) (readOf d)) 0 (k .u)
 unfolding bySources
 due-end k d e set left s q r =
@@ -38,16 +45,16 @@ due-end k d e set left s q r =
   where
     past : (i : ℕ) → k .u ≤ i → (member set i && not (member (d .sent .0) i)) ≡ member (insertAll (due (settingsOf k) (readOf d)) 0 (k .u)) i
     past i h =
-        rw (s, q, insertAll-high (bySources (ltb (k .f)) (d .received)) 0 (k .u) i h, insertAll-high (due (settingsOf k) (readOf d)) 0 (k .u) i h, member-zero i)
+        rw (s, q, insertAll-high (bySources (moreThan (k .f)) (d .received)) 0 (k .u) i h, insertAll-high (due (settingsOf k) (readOf d)) 0 (k .u) i h, member-zero i)
 
     here : (i : ℕ) → i < k .u → (member set i && not (member (d .sent .0) i)) ≡ member (insertAll (due (settingsOf k) (readOf d)) 0 (k .u)) i
     here i h =
-        rw (s, q, insertAll-member (bySources (ltb (k .f)) (d .received)) (k .u) i h, insertAll-member (due (settingsOf k) (readOf d)) (k .u) i h)
+        rw (s, q, insertAll-member (bySources (moreThan (k .f)) (d .received)) (k .u) i h, insertAll-member (due (settingsOf k) (readOf d)) (k .u) i h)
         (sym (due-is (settingsOf k) (readOf d) i))
 
--- the entries of at least so many sources are ripe
-pub ripe-end : (k : Settings) (j : ℕ) (d : Desk) (least e set : ℕ) → set ≡ insertAll (bySources (leb least) (d .received)) (d .listed .0) e → least ≡ k .n - k .f → e ≡ k .u
-    → set ≡ insertAll (ripe (settingsOf k) j (readOf d)) (d .listed .0) (k .u)
+-- the entries of enough sources, the desk's own among them, are ripe
+pub ripe-end : (k : Settings) (j : ℕ) (d : Desk) (enough e set : ℕ) → set ≡ insertAll (bySources (enoughWith enough j) (d .received)) (d .listed .0) e
+    → enough ≡ k .n - k .f → e ≡ k .u → set ≡ insertAll (ripe (settingsOf k) j (readOf d)) (d .listed .0) (k .u)
 unfolding bySources
-ripe-end k j d least e set s p q =
-    s ∙ rw (q, p) (insertAll-same (bySources (leb (k .n - k .f)) (d .received)) (ripe (settingsOf k) j (readOf d)) (d .listed .0) (k .u) (λ i l. sym (ripe-is (settingsOf k) j (readOf d) i)))
+ripe-end k j d enough e set s p q =
+    s ∙ rw (q, p) (insertAll-same (bySources (enoughWith (k .n - k .f) j) (d .received)) (ripe (settingsOf k) j (readOf d)) (d .listed .0) (k .u) (λ i l. sym (ripe-is (settingsOf k) j (readOf d) i)))

@@ -8,9 +8,9 @@ use sets::EntrySet;
 ghost use mathlib.Core.Path.{_≡_};
 ghost use Prim.Native.Nat.{_+_, _-_, _≤_, _<_};
 ghost use lib.ListN.{length};
-ghost use mathlib.Core.Bool.{cond};
+ghost use mathlib.Core.Bool.{cond, _&&_};
 ghost use lib.Dec.{leb, ltb};
-ghost use Rattle.sets.specs.Sets.{size, insertBelow, insertAll};
+ghost use Rattle.sets.specs.Sets.{member, size, insertBelow, insertAll};
 ghost use lib.Bits.{bitOr};
 ghost use Rattle.rules.specs.Rules.{withinLimits, fresh, due, timed, withSent, accepting};
 ghost use Rattle.floors.specs.Bridge.{settingsOf, readOf, gathered, rowOf, floorOf, noFloor};
@@ -115,11 +115,13 @@ fn unsent(heard: EntrySet, sent: EntrySet) -> EntrySet
     EntrySet((heard.0 | sent.0) - sent.0)
 }
 
-// Whether an entry from these sources is to be listed.
-fn is_ripe(enough: u8, sources: DeskSet) -> bool
-    ensures { λ r. ⌜ r ≡ leb enough (size 16 (sources .0)) ⌝ }
+// Whether an entry from these sources is to be listed, by the desk of this number.
+fn is_ripe(enough: u8, number: DeskNo, sources: DeskSet) -> bool
+    ensures { λ r. ⌜ r ≡ (leb enough (size 16 (sources .0)) && member (sources .0) (number .0)) ⌝ }
 {
-    enough <= sources.size()
+    let many = enough <= sources.size();
+    let own = sources.has(number);
+    many & own
 }
 
 fn with_if(set: EntrySet, entry: EntryNo, put: bool) -> EntrySet
@@ -128,8 +130,8 @@ fn with_if(set: EntrySet, entry: EntryNo, put: bool) -> EntrySet
     if put { set.with(entry) } else { set }
 }
 
-// How many entries there are. What this says again, that they are 64 at most, the compiler knows then: it leaves out a test
-// for each of them.
+// How many entries there are. The compiler does not know the condition; by this it knows that they are 64 at most, and
+// leaves out a test for each.
 fn entries_of(settings: Settings) -> u8
     requires { ⌜ settings .u ≤ 64 ⌝ }
     ensures { λ r. ⌜ r ≡ settings .u ⌝ }
@@ -183,7 +185,7 @@ impl Desk {
         while e < u {
             let at = e as usize;
             let sources = DeskSet(self.received[at]);
-            let put = is_ripe(enough, sources);
+            let put = is_ripe(enough, number, sources);
             listed = with_if(listed, EntryNo(e), put);
             e += 1;
         }

@@ -31,6 +31,18 @@ pub fn announce(desk: u8, entry: u8) -> Action {
     }
 }
 
+pub fn accept(desk: u8) -> Action {
+    Action {
+        kind: 3,
+        desk: DeskNo(desk),
+        other: DeskNo(0),
+        entry: EntryNo(0),
+        a: 0,
+        b: 0,
+        c: 0,
+    }
+}
+
 pub fn receive(desk: u8, source: u8, entry: u8) -> Action {
     Action {
         kind: 4,

@@ -53,7 +53,7 @@ pub due-is : (k : Settings) (d : Desk) (e : ℕ) → due k d e ≡ (ltb (k .f) (
 unfolding due
 due-is k d e = rw add-one
 
-pub ripe-is : (k : Settings) (j : ℕ) (d : Desk) (e : ℕ) → ripe k j d e ≡ leb (k .n - k .f) (size 16 (sources d e))
+pub ripe-is : (k : Settings) (j : ℕ) (d : Desk) (e : ℕ) → ripe k j d e ≡ (leb (k .n - k .f) (size 16 (sources d e)) && member (sources d e) j)
 unfolding ripe
 ripe-is k j d e = refl
 

@@ -1,5 +1,5 @@
 -- How an entry travels from desk to desk: a new sent mark comes with a note to every desk, a note leaves only into the set of its
--- destination, f + 1 sources are passed on and n − f sources are listed. Nobody else unfolds `due` and `ripe`. Assumes nothing.
+-- destination, f + 1 sources are passed on, and n − f sources with the own among them are listed. Nobody else unfolds `due` and `ripe`. Assumes nothing.
 use mathlib.Core.Path.{_≡_, refl, sym, ap, _∙_, subst}
 use mathlib.Core.Bool.{Bool, true, false, not}
 use mathlib.Core.Logic.{_⊎_, inl, inr, ⊎-elim}
@@ -32,9 +32,9 @@ module _ (k : Settings) (d : Desk) (e : ℕ) where
   unfolding due
   due-enough h clear = and-both (leb (k .f + 1) (size 16 (sources d e))) (not (isSent d e)) (le-leb (k .f + 1) (size 16 (sources d e)) h) (ap not clear)
 
-  pub ripe-enough : (j : ℕ) → k .n - k .f ≤ size 16 (sources d e) → ripe k j d e ≡ true
+  pub ripe-enough : (j : ℕ) → k .n - k .f ≤ size 16 (sources d e) → member (sources d e) j ≡ true → ripe k j d e ≡ true
   unfolding ripe
-  ripe-enough j h = le-leb (k .n - k .f) (size 16 (sources d e)) h
+  ripe-enough j h own = and-both (leb (k .n - k .f) (size 16 (sources d e))) (member (sources d e) j) (le-leb (k .n - k .f) (size 16 (sources d e)) h) own
 
 -- ---- what a desk has after its own move
 

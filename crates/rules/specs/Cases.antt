@@ -85,6 +85,11 @@ abbrev pub allTry : List Step
 allTry =
     does (passOn 0) ∷ does (accept 0) ∷ does (passOn 1) ∷ does (accept 1) ∷ does (passOn 2) ∷ does (accept 2) ∷ does (passOn 3) ∷ does (accept 3) ∷ []
 
+-- "Desk 3 holds sources 0, 1 and 2 and not its own"
+abbrev pub threeOthers : List Step
+threeOthers =
+    does (announce 0 0) ∷ does (announce 1 0) ∷ does (announce 2 0) ∷ does (receive 3 0 0) ∷ does (receive 3 1 0) ∷ does (receive 3 2 0) ∷ []
+
 abbrev pub starredCases : List Case
 starredCases =
     -- K1 Openings: (4,1) and (1,0) open; (3,1) and (17,5) give 2.
@@ -113,7 +118,7 @@ starredCases =
     ∷ shown (receive 3 1 0) 0 (waiting 6)
     ∷ shown (passOn 3) 0 (notesAre (noteOf 3 0 0 0 ∷ noteOf 3 0 1 0 ∷ noteOf 3 0 2 0 ∷ noteOf 3 1 0 0 ∷ noteOf 3 1 1 0 ∷ noteOf 3 1 2 0 ∷ fourFrom 3))
     ∷ [])
-    -- K6 Accept with two sources: not listed. With three: listed.
+    -- K6 Accept with two sources: not listed. With three: listed. T-04: "K6 with three sources holds when its own is one of the three."
     ∷ story small
     (does (announce 0 0)
     ∷ does (announce 1 0)
@@ -122,6 +127,17 @@ starredCases =
     ∷ shown (accept 3) 0 (λ s. not (isListed 3 0 s))
     ∷ does (passOn 3)
     ∷ does (receive 3 3 0)
+    ∷ shown (accept 3) 0 (isListed 3 0)
+    ∷ [])
+    -- (Its own is one of the two.)
+    ∷ story small
+    (does (announce 3 0)
+    ∷ does (announce 0 0)
+    ∷ does (receive 3 3 0)
+    ∷ does (receive 3 0 0)
+    ∷ shown (accept 3) 0 (λ s. not (isListed 3 0 s))
+    ∷ does (announce 1 0)
+    ∷ does (receive 3 1 0)
     ∷ shown (accept 3) 0 (isListed 3 0)
     ∷ [])
     -- K7 Receive on a fresh floor: 6.
@@ -144,14 +160,21 @@ starredCases =
     (does (crash 0) ∷ does (falseNote 0 1 0 3) ∷ does (falseNote 0 1 0 1) ∷ shown (receive 1 0 0) 0 (notesAre (noteOf 3 0 1 0 ∷ [])) ∷ [])
     ∷ story small
     (does (crash 0) ∷ does (falseNote 0 1 0 1) ∷ does (falseNote 0 1 0 3) ∷ shown (receive 1 0 0) 0 (notesAre (noteOf 3 0 1 0 ∷ [])) ∷ [])
-    -- K12 Desk 3 holds sources 0, 1 and 2 and not its own: accept lists the entry.
+    -- K12 Desk 3 holds sources 0, 1 and 2 and not its own: by T-04 "not listed". (With its own: listed.)
     ∷ story small
-    (does (announce 0 0)
-    ∷ does (announce 1 0)
-    ∷ does (announce 2 0)
-    ∷ does (receive 3 0 0)
-    ∷ does (receive 3 1 0)
-    ∷ does (receive 3 2 0)
+    (threeOthers
+    ++ shown (accept 3) 0 (λ s. not (isListed 3 0 s))
+    ∷ does (passOn 3)
+    ∷ does (receive 3 3 0)
     ∷ shown (accept 3) 0 (isListed 3 0)
+    ∷ [])
+    -- (A faulty desk 3 likewise.)
+    ∷ story small
+    (does (crash 3)
+    ∷ threeOthers
+    ++ shown (accept 3) 0 (λ s. not (isListed 3 0 s))
+    ∷ does (falseNote 3 3 0 0)
+    ∷ does (receive 3 3 0)
+    ∷ shown (accept 3) 0 (λ s. isFaulty 3 s && isListed 3 0 s)
     ∷ [])
     ∷ []

@@ -163,10 +163,10 @@ passedOn s i =
     withDesk (withNotes s (postAll (s .notes) (broadcasts (due (s .settings) (deskAt s i)) (newTimeOut s) i (s .settings .n) (s .settings .u)))) i
     (passing (s .settings) (deskAt s i))
 
--- Accept: "sets the accept timer to 0 and puts on the list every entry with at least n−f sources received". The desk's own number j is
--- named beside the desk, for a rule that asks who the sources are.
+-- Accept: "sets the accept timer to 0 and puts on the list every entry with at least n−f sources received", by T-04 "only if n−f sources are
+-- received and the desk itself is one of them". The desk is d, and j its number.
 unfoldable pub ripe : Settings → ℕ → Desk → ℕ → Bool
-ripe k j d e = leb (k .n - k .f) (size 16 (sources d e))
+ripe k j d e = leb (k .n - k .f) (size 16 (sources d e)) && member (sources d e) j
 
 abbrev pub accepting : Settings → ℕ → Desk → Desk
 accepting k j d =

@@ -1,19 +1,18 @@
--- `floors::Desk::accept` meets its contract. The invariant: the list has the entries below e put in that have enough sources. Assumes nothing.
+-- `floors::Desk::accept` meets its contract. The invariant: the list has the entries below e put in that have enough sources, the desk's own among them. Assumes nothing.
 use mathlib.Core.Path.{_≡_, sym}
 use Prim.Native.Nat.{_≤_, _-_}
 use native.Mathlib.Omega.{arith}
-use lib.Dec.{leb}
 use Rattle.sets.specs.Sets.{insertAll}
 use Rattle.sets.proofs.InsertAllLaws.{insertAll-zero}
-use Rattle.floors.proofs.Gather.{bySources, gather, ripe-end}
+use Rattle.floors.proofs.Gather.{bySources, enoughWith, gather, ripe-end}
 use Rattle.floors.proofs.Desk.accept.Statement.{statement}
 use Rattle.floors.proofs.Desk.accept.Tie as tie
 
 abbrev Inv-loop : tie.InvT-loop
-Inv-loop self enough u listed₀ e₀ listed e = (e ≤ u) × (listed .0 ≡ insertAll (bySources (leb enough) (self .received)) (listed₀ .0) e)
+Inv-loop number self enough u listed₀ e₀ listed e = (e ≤ u) × (listed .0 ≡ insertAll (bySources (enoughWith enough (number .0)) (self .received)) (listed₀ .0) e)
 
 abbrev μ-loop : tie.MeasureT-loop
-μ-loop self enough u listed₀ e₀ listed e = u - e
+μ-loop number self enough u listed₀ e₀ listed e = u - e
 
 sub-enough : tie.Need-sub-enough Inv-loop μ-loop
 sub-enough c = omega arith

@@ -2,15 +2,14 @@
 use mathlib.Core.Path.{_≡_, sym, _∙_}
 use Prim.Native.Nat.{_≤_, _-_}
 use native.Mathlib.Omega.{arith}
-use lib.Dec.{ltb}
 use Rattle.sets.specs.Sets.{insertAll}
 use Rattle.sets.proofs.InsertAllLaws.{insertAll-zero}
-use Rattle.floors.proofs.Gather.{bySources, gather, due-end}
+use Rattle.floors.proofs.Gather.{bySources, moreThan, gather, due-end}
 use Rattle.floors.proofs.Desk.due.Statement.{statement}
 use Rattle.floors.proofs.Desk.due.Tie as tie
 
 abbrev Inv-loop : tie.InvT-loop
-Inv-loop settings self u heard₀ e₀ heard e = (e ≤ u) × (u ≡ settings .u) × (heard .0 ≡ insertAll (bySources (ltb (settings .f)) (self .received)) 0 e)
+Inv-loop settings self u heard₀ e₀ heard e = (e ≤ u) × (u ≡ settings .u) × (heard .0 ≡ insertAll (bySources (moreThan (settings .f)) (self .received)) 0 e)
 
 abbrev μ-loop : tie.MeasureT-loop
 μ-loop settings self u heard₀ e₀ heard e = u - e
