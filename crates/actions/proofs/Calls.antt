@@ -21,7 +21,7 @@ use Rattle.floors.specs.declared.Floor.{Floor}
 use Rattle.shapes.specs.Shape.{inShapeAt}
 use Rattle.shapes.proofs.ShapeLaws.{shape-holds, holds-shape}
 use Rattle.moves.specs.Moves.{Outcome, refusal, stepAt, Told, noneNew, toldAt}
-use Rattle.moves.proofs.Steps.{step-refused, told-refused, refused}
+use Rattle.moves.proofs.Steps.{step-refused, told-refused}
 use Rattle.moves.proofs.StepLaws.{Fit, told-out, told-answer, told-added, step-answer, step-next}
 use Rattle.kinds.specs.Kinds.{moveOf}
 use Rattle.kinds.proofs.KindLaws.{malformed, announce-move}
