@@ -5,7 +5,7 @@ use crate::given::shaped_area;
 use crate::report::line;
 ghost use Prim.Native.Nat.{_<_};
 
-// The line has the desk's list after it has heard entry 0 from these and accepts.
+// The line has the desk's list, as the number of its set, after it has heard entry 0 from these and accepts.
 fn list_after(name: &[u8], desk: u8, sources: u16)
     requires { ⌜ desk < 16 ⌝ }
 {

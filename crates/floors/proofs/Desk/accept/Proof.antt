@@ -1,4 +1,5 @@
--- `floors::Desk::accept` meets its contract. The invariant: the list has the entries below e put in that have enough sources, the desk's own among them. Assumes nothing.
+-- `floors::Desk::accept` meets its contract. The invariant: the list has the entries below e put in that have enough sources, the desk's own
+-- among them. Assumes nothing.
 use mathlib.Core.Path.{_≡_, sym}
 use Prim.Native.Nat.{_≤_, _-_}
 use native.Mathlib.Omega.{arith}
