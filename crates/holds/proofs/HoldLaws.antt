@@ -54,13 +54,21 @@ announced-below fl area x z one =
 pub few-entries : (fl : Floor) (area : List ℕ) → inShapeAt fl area ≡ true → fl .settings .u ≤ 64
 few-entries fl area shaped = shape-limits (stateOf fl area) (shape-holds fl area shaped .1) .entries .1
 
+-- the hold with the announcement x noted, which left the floor fl
+abbrev noting : Hold → Action → Floor → Hold
+noting h x fl = announcing h fl (x .desk .0) (x .entry .0)
+
+-- the number that the hold's own checks give
+abbrev own-number : Hold → List ℕ → ℕ
+own-number h area = firstOf (wrongArea area ∷ notedOutOfShape h ∷ [])
+
 module _ (h : Hold) (area : List ℕ) (x : Action) where
   -- what comes back with what the library told, and with these announcers and noted clocks
   abbrev telling : Told → List ℕ → List ℕ → Holding
   telling t announcers noted = record { answer = t .out .answer; hold = record { floor = t .out .floor; announcers = announcers; noted = noted; printed = h .printed }; area = t .out .area }
 
   -- t is what the head and the arrays hold
-  took-refused : (number : ℕ) → eqb number 0 ≡ false → firstOf (wrongArea area ∷ notedOutOfShape h ∷ []) ≡ number
+  took-refused : (number : ℕ) → eqb number 0 ≡ false → own-number h area ≡ number
       → (t : Told) → t ≡ noneNew (refusal number (h .floor) area) → telling t (h .announcers) (h .noted) ≡ took h area x
   unfolding took
   took-refused number some e t is = rw (is, e, some)
@@ -77,7 +85,7 @@ module _ (h : Hold) (area : List ℕ) (x : Action) where
       pub took-acted : took h area x ≡ taking h x (acted (h .floor) area x .out)
       unfolding took
       took-acted =
-          rw (eq-eqb (firstOf (wrongArea area ∷ notedOutOfShape h ∷ [])) 0 (area-passes area _ long ∙ first-passes 1 (not (notedInShape h)) [] (ap not (was-true s y)) ∙ first-none))
+          rw (eq-eqb (own-number h area) 0 (area-passes area _ long ∙ first-passes 1 (not (notedInShape h)) [] (ap not (was-true s y)) ∙ first-none))
 
       -- t is what the library made of it
       module _ (t : Told) (is : t ≡ acted (h .floor) area x) where
@@ -91,12 +99,11 @@ module _ (h : Hold) (area : List ℕ) (x : Action) where
         abbrev with-hold : Hold → Holding
         with-hold q = record { answer = t .out .answer; hold = q; area = t .out .area }
 
-        -- the hold with the announcement noted
-        abbrev noting : Hold
-        noting = announcing h (t .out .floor) (x .desk .0) (x .entry .0)
+        abbrev noted-hold : Hold
+        noted-hold = noting h x (t .out .floor)
 
         pub took-other : announced ≡ false → telling t (h .announcers) (h .noted) ≡ took h area x
-        took-other z = sym (taken ∙ ap with-hold (cond-false announced noting (withFloor h (t .out .floor)) z))
+        took-other z = sym (taken ∙ ap with-hold (cond-false announced noted-hold (withFloor h (t .out .floor)) z))
 
         module _ (z : announced ≡ true) where
           done : (t .out .answer ≡ 0) × (x .kind ≡ 1)
@@ -110,8 +117,8 @@ module _ (h : Hold) (area : List ℕ) (x : Action) where
               let zero : acted (h .floor) area x .out .answer ≡ 0 = ap (λ (q : Told). q .out .answer) (sym is) ∙ done .0 in
               lt-of-lt-of-le (announced-below (h .floor) area x zero (done .1) .1) (few-entries (h .floor) area (act-done (h .floor) area x zero .0))
 
-          pub took-announced : (announcers noted : List ℕ) → (announcers ≡ noting .announcers) × (noted ≡ noting .noted) → telling t announcers noted ≡ took h area x
-          took-announced announcers noted (p, q) = rw (p, q) (sym (taken ∙ ap with-hold (cond-true announced noting (withFloor h (t .out .floor)) z)))
+          pub took-announced : (announcers noted : List ℕ) → (announcers ≡ noted-hold .announcers) × (noted ≡ noted-hold .noted) → telling t announcers noted ≡ took h area x
+          took-announced announcers noted (p, q) = rw (p, q) (sym (taken ∙ ap with-hold (cond-true announced noted-hold (withFloor h (t .out .floor)) z)))
 
 -- ---- what an action leaves as it was
 
@@ -121,9 +128,9 @@ SizedHold h = Sized (h .floor) × (length (h .announcers) ≡ 64) × (length (h 
 
 module _ (h : Hold) (x : Action) (o : Outcome) where
   -- the hold has the library's floor, and notes the announcement or nothing
-  taking-either : (Q : Hold → Type 0) → Q (announcing h (o .floor) (x .desk .0) (x .entry .0)) → Q (withFloor h (o .floor)) → Q (taking h x o .hold)
+  taking-either : (Q : Hold → Type 0) → Q (noting h x (o .floor)) → Q (withFloor h (o .floor)) → Q (taking h x o .hold)
   taking-either Q noted same =
-      cond-both Q (eqb (o .answer) 0 && eqb (x .kind) 1) (announcing h (o .floor) (x .desk .0) (x .entry .0)) (withFloor h (o .floor)) (λ t. noted) (λ f. same)
+      cond-both Q (eqb (o .answer) 0 && eqb (x .kind) 1) (noting h x (o .floor)) (withFloor h (o .floor)) (λ t. noted) (λ f. same)
 
   -- whatever is noted, the floor is the library's
   pub taking-floor : let q = taking h x o in record { answer = q .answer; floor = q .hold .floor; area = q .area } ≡ o
@@ -137,8 +144,7 @@ module _ (h : Hold) (area : List ℕ) (x : Action) where
   took-either : (Q : Holding → Type 0) → ((number : ℕ) → Q (refusing number h area)) → Q (taking h x by-library) → Q (took h area x)
   unfolding took
   took-either Q refuses takes =
-      let number = firstOf (wrongArea area ∷ notedOutOfShape h ∷ []) in
-      cond-both Q (eqb number 0) (taking h x by-library) (refusing number h area) (λ e. takes) (λ e. refuses number)
+      cond-both Q (eqb (own-number h area) 0) (taking h x by-library) (refusing (own-number h area) h area) (λ e. takes) (λ e. refuses (own-number h area))
 
   -- what was refused has changed nothing
   pub took-still : took h area x .answer ≢ 0 → took h area x ≡ refusing (took h area x .answer) h area

@@ -81,42 +81,56 @@ module _ (limit : ℕ) (bytes : List ℕ) (all : Taken) (h : Hold) (area : List 
 pub opened-alike : (area : List ℕ) (x y : Action) → opened area x ≡ opened area y → openedHold area x ≡ openedHold area y
 opened-alike area x y e = opened-hold area x ∙ ap opening e ∙ sym (opened-hold area y)
 
+-- o is what the opening left
+module _ (o : Holding) (bytes : List ℕ) where
+  pub after-stops : o .answer ≢ 0 → record { count = 0; out = o } ≡ takenAfter o bytes
+  unfolding takenAfter
+  after-stops z = rw (ne-eqb (o .answer) 0 z)
+
+  pub after-takes : o .answer ≡ 0 → takenFrom (length bytes / 16 - 1) (o .hold) (o .area) (drop 16 bytes) 0 ≡ takenAfter o bytes
+  unfolding takenAfter
+  after-takes z = rw (eq-eqb (o .answer) 0 z)
+
 module _ (area bytes : List ℕ) where
+  -- the number with which it is refused before it opens
+  abbrev first-number : ℕ
+  first-number = firstOf (wholeChecks area bytes)
+
+  abbrev x : Action
+  x = actionOf (take 16 bytes)
+
   -- h is the hold that is none
-  pub taken-refused : (number : ℕ) → eqb number 0 ≡ false → firstOf (wholeChecks area bytes) ≡ number → (h : Hold) → h ≡ newHold noFloor
+  pub taken-refused : (number : ℕ) → eqb number 0 ≡ false → first-number ≡ number → (h : Hold) → h ≡ newHold noFloor
       → record { count = 0; out = refusing number h area } ≡ wholeTaken area bytes
   unfolding wholeTaken
   taken-refused number some e h none = rw (e, some, none)
 
-  module _ (long : length area ≡ mostNotes) (h : (eqb (length bytes) 0 || not (eqb (length bytes % 16) 0)) ≡ false) where
-    first : wholeTaken area bytes ≡ takenAfter (openedHold area (actionOf (take 16 bytes))) bytes
-    unfolding wholeTaken
-    first = rw (eq-eqb (firstOf (wholeChecks area bytes)) 0 (number-0 area bytes long h))
+  pub taken-opens : first-number ≡ 0 → takenAfter (openedHold area x) bytes ≡ wholeTaken area bytes
+  unfolding wholeTaken
+  taken-opens none = rw (eq-eqb first-number 0 none)
 
-    -- o is what the opening left
-    module _ (o : Holding) (is : o ≡ openedHold area (actionOf (take 16 bytes))) where
-      pub taken-unopened : o .answer ≢ 0 → record { count = 0; out = o } ≡ wholeTaken area bytes
-      unfolding takenAfter
-      taken-unopened z = sym (first ∙ rw (← is, ne-eqb (o .answer) 0 z))
+  module _ (long : length area ≡ mostNotes) (h : (eqb (length bytes) 0 || not (eqb (length bytes % 16) 0)) ≡ false) (o : Holding) (is : o ≡ openedHold area x) where
+    after : takenAfter o bytes ≡ wholeTaken area bytes
+    after = ap (λ (q : Holding). takenAfter q bytes) is ∙ taken-opens (number-0 area bytes long h)
 
-      pub taken-opened : o .answer ≡ 0 → (t : Taken) → t ≡ takenFrom (length bytes / 16 - 1) (o .hold) (o .area) (take (length bytes - 16) (drop 16 bytes)) 0 → t ≡ wholeTaken area bytes
-      unfolding takenAfter
-      taken-opened z t e =
-          sym (first ∙ rw (← is, eq-eqb (o .answer) 0 z) (sym (e ∙ ap (λ (b : List ℕ). takenFrom (length bytes / 16 - 1) (o .hold) (o .area) b 0) (tail bytes 16 (records-there area bytes long h .0)))))
+    pub taken-unopened : o .answer ≢ 0 → record { count = 0; out = o } ≡ wholeTaken area bytes
+    taken-unopened z = after-stops o bytes z ∙ after
+
+    pub taken-opened : o .answer ≡ 0 → (t : Taken) → t ≡ takenFrom (length bytes / 16 - 1) (o .hold) (o .area) (take (length bytes - 16) (drop 16 bytes)) 0 → t ≡ wholeTaken area bytes
+    taken-opened z t e =
+        e ∙ ap (λ (b : List ℕ). takenFrom (length bytes / 16 - 1) (o .hold) (o .area) b 0) (tail bytes 16 (records-there area bytes long h .0)) ∙ after-takes o bytes z ∙ after
 
   -- what holds where there is no floor, and of the records after an opening, holds of a whole sequence
   pub taken-either : (Q : Taken → Type 0) → ((o : Holding) → o .hold .floor ≡ noFloor → Q (record { count = 0; out = o }))
-      → (let x = actionOf (take 16 bytes) in let o = openedHold area x in opened area x .answer ≡ 0 → (n : ℕ) → Q (takenFrom n (o .hold) (o .area) (drop 16 bytes) 0))
+      → (let o = openedHold area x in opened area x .answer ≡ 0 → (n : ℕ) → Q (takenFrom n (o .hold) (o .area) (drop 16 bytes) 0))
       → Q (wholeTaken area bytes)
   unfolding wholeTaken takenAfter
   taken-either Q none ran =
-      let number = firstOf (wholeChecks area bytes) in
-      let x = actionOf (take 16 bytes) in
       let o = openedHold area x in
       let is : o ≡ opening (opened area x) = opened-hold area x in
       let answered : opened area x .answer ≡ o .answer = ap (λ (q : Holding). q .answer) (sym is) in
-      cond-both Q (eqb number 0) (takenAfter o bytes) (record { count = 0; out = refusing number (newHold noFloor) area })
+      cond-both Q (eqb first-number 0) (takenAfter o bytes) (record { count = 0; out = refusing first-number (newHold noFloor) area })
       (λ e. cond-both Q (eqb (o .answer) 0) (takenFrom (length bytes / 16 - 1) (o .hold) (o .area) (drop 16 bytes) 0) (record { count = 0; out = o })
       (λ z. ran (answered ∙ eqb-true (o .answer) 0 z) (length bytes / 16 - 1))
       (λ z. none o (ap (λ (q : Holding). q .hold .floor) is ∙ opened-none area x (λ e. eqb-false (o .answer) 0 z (sym answered ∙ e)))))
-      (λ e. none (refusing number (newHold noFloor) area) refl)
+      (λ e. none (refusing first-number (newHold noFloor) area) refl)

@@ -1,18 +1,18 @@
 -- A whole sequence on a hold: it counts, answers and leaves a floor as the library does, and the hold that it leaves has the promise.
 -- Assumes nothing.
 use mathlib.Core.Path.{_≡_, refl, sym, ap, _∙_, subst}
-use mathlib.Core.Bool.{true, false, not, _||_}
+use mathlib.Core.Bool.{true}
 use mathlib.Core.List.{List, [], _∷_, _++_, append-assoc, append-nil}
 use mathlib.Core.Logic.{_≢_, ⊎-elim}
-use Prim.Native.Nat.{ℕ, zero, suc, _+_, _-_, _/_, _%_, _≤_, _<_}
+use Prim.Native.Nat.{ℕ, zero, suc, _+_, _-_, _/_, _≤_, _<_}
 use native.Mathlib.Omega.{arith}
 use lib.Dec.{eqb}
 use lib.ListN.{length, take, drop}
-use borrow.Author.Tests.{eqb-true, eqb-false}
+use borrow.Author.Tests.{ne-eqb, eqb-true, eqb-false}
 use Rattle.sets.specs.Counting.{bit}
 use Rattle.sets.proofs.Tests.{decided}
 use Rattle.rules.specs.Rules as rules
-use Rattle.rules.specs.Rules.{Move, firstOf, mostNotes}
+use Rattle.rules.specs.Rules.{Move, firstOf}
 use Rattle.rules.proofs.Shapes.{limits}
 use Rattle.records.specs.Records.{actionOf, recordAt}
 use Rattle.records.specs.declared.Action.{Action}
@@ -25,15 +25,15 @@ use Rattle.actions.specs.Actions.{settingsIn, acted, opened}
 use Rattle.actions.proofs.Calls.{act-fits}
 use Rattle.actions.proofs.Openings as openings
 use Rattle.sequences.specs.Sequences.{moveAt, movesFrom, Went, wentFrom}
-use Rattle.runs.specs.Runs.{stopped, wholeChecks, wholeWent}
-use Rattle.runs.proofs.CallLaws.{number-15, number-16, whole-15, whole-16, whole-stops, whole-runs}
+use Rattle.runs.specs.Runs.{unbegun, stopped, wholeChecks, afterOpening, wholeWent}
+use Rattle.runs.proofs.CallLaws.{after-either, whole-refused, whole-opens}
 use Rattle.sequences.proofs.SequenceLaws.{move-at, moves-none, moves-next, went-none, went-next, went-stop}
 use Rattle.holds.specs.declared.Hold.{Hold}
 use Rattle.holds.specs.Holding.{newHold, Holding, refusing, opening, openedHold, took}
-use Rattle.printing.specs.Whole.{Taken, takenFrom, wholeTaken}
+use Rattle.printing.specs.Whole.{Taken, takenFrom, takenAfter, wholeTaken}
 use Rattle.printing.specs.Promise.{Promised}
 use Rattle.holds.proofs.HoldLaws.{opened-hold, took-acted, taking-floor, took-still}
-use Rattle.printing.proofs.WholeLaws.{taken-none, taken-next, taken-stop, taken-refused, taken-unopened, taken-opened, taken-either}
+use Rattle.printing.proofs.WholeLaws.{taken-none, taken-next, taken-stop, after-stops, after-takes, taken-refused, taken-opens, taken-either}
 use Rattle.printing.proofs.Follows.{Follows, opened-with, took-follows, opened-follows}
 use Rattle.printing.proofs.Promised.{promised}
 
@@ -148,42 +148,41 @@ module _ (area bytes : List ℕ) where
   abbrev Same : Taken → Went → Type 0
   Same t w = seen t (w .total) ≡ w
 
-  module _ (long : length area ≡ mostNotes) (there : (eqb (length bytes) 0 || not (eqb (length bytes % 16) 0)) ≡ false) where
-    -- the records as the calls lend them
-    abbrev part : List ℕ
-    part = take (length bytes - 16) (drop 16 bytes)
+  -- what follows an opening
+  after-same : let o = opened area x in Same (takenAfter (opening o) bytes) (afterOpening o bytes)
+  after-same =
+      after-either o bytes (Same (takenAfter (opening o) bytes))
+      (λ z. let k = settingsOf (settingsIn x) in
+      let few = limits k (openings.limits area x z) .desks .1 in
+      let begin : Follows k few [] (newHold (o .floor)) (o .area) = subst (λ (q : Holding). Follows k few [] (q .hold) (q .area)) (opened-hold area x) (opened-follows area x z few) in
+      subst (λ (t : Taken). Same t carried) (after-takes (opening o) bytes z) (taken-same k few (drop 16 bytes) n [] (newHold (o .floor)) (o .area) 0 0 begin))
+      (λ z. subst (λ (t : Taken). Same t (unbegun o)) (after-stops (opening o) bytes z) refl)
+    where
+      o : Outcome
+      o = opened area x
 
-    abbrev n : ℕ
-    n = length bytes / 16 - 1
+      n : ℕ
+      n = length bytes / 16 - 1
 
-    opened-same : opened area x .answer ≡ 0 → Same (wholeTaken area bytes) (wholeWent area bytes)
-    opened-same z =
-        let o = opened area x in
-        let h = opening o in
-        let k = settingsOf (settingsIn x) in
-        let few = limits k (openings.limits area x z) .desks .1 in
-        let begin : Follows k few [] (h .hold) (h .area) = subst (λ (q : Holding). Follows k few [] (q .hold) (q .area)) (opened-hold area x) (opened-follows area x z few) in
-        subst (λ (t : Taken). Same t (wholeWent area bytes)) (taken-opened area bytes long there h (sym (opened-hold area x)) z (takenFrom n (h .hold) (h .area) part 0) refl)
-        (subst (Same (takenFrom n (h .hold) (h .area) part 0)) (whole-runs area bytes long there o refl z (wentFrom n (o .floor) (o .area) part 0 0) refl)
-        (taken-same k few part n [] (h .hold) (h .area) 0 0 begin))
-
-    unopened-same : opened area x .answer ≢ 0 → Same (wholeTaken area bytes) (wholeWent area bytes)
-    unopened-same z =
-        subst (λ (t : Taken). Same t (wholeWent area bytes)) (taken-unopened area bytes long there (opening (opened area x)) (sym (opened-hold area x)) z)
-        (subst (Same (record { count = 0; out = opening (opened area x) })) (whole-stops area bytes long there (opened area x) refl z) refl)
-
-  -- refused before it opens
-  refused-same : (number : ℕ) → eqb number 0 ≡ false → firstOf (wholeChecks area bytes) ≡ number → stopped number noFloor area ≡ wholeWent area bytes → Same (wholeTaken area bytes) (wholeWent area bytes)
-  refused-same number some e w =
-      subst (λ (t : Taken). Same t (wholeWent area bytes)) (taken-refused area bytes number some e (newHold noFloor) refl)
-      (subst (Same (record { count = 0; out = refusing number (newHold noFloor) area })) w refl)
+      carried : Went
+      carried = wentFrom n (o .floor) (o .area) (drop 16 bytes) 0 0
 
   pub whole-same : Same (wholeTaken area bytes) (wholeWent area bytes)
-  whole-same =
-      ⊎-elim
-      (λ l. let long = eqb-true (length area) mostNotes l in
-      ⊎-elim (λ r. refused-same 16 refl (number-16 area bytes long r) (whole-16 area bytes long r noFloor refl))
-      (λ r. ⊎-elim (λ z. opened-same long r (eqb-true (opened area x .answer) 0 z)) (λ z. unopened-same long r (eqb-false (opened area x .answer) 0 z)) (decided (eqb (opened area x .answer) 0)))
-      (decided (eqb (length bytes) 0 || not (eqb (length bytes % 16) 0))))
-      (λ l. let short = eqb-false (length area) mostNotes l in refused-same 15 refl (number-15 area bytes short) (whole-15 area bytes short noFloor refl))
-      (decided (eqb (length area) mostNotes))
+  whole-same = ⊎-elim (λ e. opens (eqb-true number 0 e)) (λ e. refused (eqb-false number 0 e)) (decided (eqb number 0))
+    where
+      number : ℕ
+      number = firstOf (wholeChecks area bytes)
+
+      -- t and w are what the two come to
+      both : (t : Taken) (w : Went) → t ≡ wholeTaken area bytes → w ≡ wholeWent area bytes → Same t w → Same (wholeTaken area bytes) (wholeWent area bytes)
+      both t w p q s = subst (λ (y : Taken). Same y (wholeWent area bytes)) p (subst (Same t) q s)
+
+      opens : number ≡ 0 → Same (wholeTaken area bytes) (wholeWent area bytes)
+      opens none =
+          both (takenAfter (opening (opened area x)) bytes) (afterOpening (opened area x) bytes)
+          (ap (λ (q : Holding). takenAfter q bytes) (sym (opened-hold area x)) ∙ taken-opens area bytes none) (whole-opens area bytes none) after-same
+
+      refused : number ≢ 0 → Same (wholeTaken area bytes) (wholeWent area bytes)
+      refused some =
+          both (record { count = 0; out = refusing number (newHold noFloor) area }) (stopped number noFloor area)
+          (taken-refused area bytes number (ne-eqb number 0 some) refl (newHold noFloor) refl) (whole-refused area bytes some) refl

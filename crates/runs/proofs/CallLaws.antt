@@ -143,56 +143,70 @@ module _ (o : Outcome) (bytes : List ℕ) where
   unfolding afterOpening
   after-runs some z r e = rw (eq-eqb (o .answer) 0 z) (e ∙ ap (λ (b : List ℕ). wentFrom (length bytes / 16 - 1) (o .floor) (o .area) b 0 0) (tail bytes 16 some))
 
+  pub after-either : (Q : Went → Type 0) → (o .answer ≡ 0 → Q (wentFrom (length bytes / 16 - 1) (o .floor) (o .area) (drop 16 bytes) 0 0)) → (o .answer ≢ 0 → Q (unbegun o)) → Q (afterOpening o bytes)
+  unfolding afterOpening
+  after-either Q runs stops =
+      cond-both Q (eqb (o .answer) 0) (wentFrom (length bytes / 16 - 1) (o .floor) (o .area) (drop 16 bytes) 0 0) (unbegun o)
+      (λ e. runs (eqb-true (o .answer) 0 e)) (λ e. stops (eqb-false (o .answer) 0 e))
+
 -- ---- a whole sequence
 
 module _ (area bytes : List ℕ) where
+  -- the number with which it is refused before it opens
+  abbrev first-number : ℕ
+  first-number = firstOf (wholeChecks area bytes)
+
+  abbrev x : Action
+  x = actionOf (take 16 bytes)
+
+  pub whole-refused : first-number ≢ 0 → stopped first-number noFloor area ≡ wholeWent area bytes
+  unfolding wholeWent
+  whole-refused some = rw (ne-eqb first-number 0 some)
+
+  pub whole-opens : first-number ≡ 0 → afterOpening (opened area x) bytes ≡ wholeWent area bytes
+  unfolding wholeWent
+  whole-opens none = rw (eq-eqb first-number 0 none)
+
   -- what the opening leaves, refused before it or not
   abbrev opening : Outcome
-  opening =
-      let number = firstOf (wholeChecks area bytes) in
-      cond (eqb number 0) (opened area (actionOf (take 16 bytes))) (refusal number noFloor area)
+  opening = cond (eqb first-number 0) (opened area x) (refusal first-number noFloor area)
+
+  -- what holds of a refusal before it opens, and of what it opens, holds of its opening
+  opening-either : (Q : Outcome → Type 0) → (first-number ≡ 0 → Q (opened area x)) → (first-number ≢ 0 → Q (refusal first-number noFloor area)) → Q opening
+  opening-either Q opens refuses =
+      cond-both Q (eqb first-number 0) (opened area x) (refusal first-number noFloor area) (λ e. opens (eqb-true first-number 0 e)) (λ e. refuses (eqb-false first-number 0 e))
 
   -- a whole sequence is what follows its opening
   follows : afterOpening opening bytes ≡ wholeWent area bytes
-  unfolding wholeWent
   follows =
-      let number = firstOf (wholeChecks area bytes) in
-      ⊎-elim (λ e. rw e) (λ e. rw e (sym (after-stops (refusal number noFloor area) bytes (eqb-false number 0 e)))) (decided (eqb number 0))
+      opening-either (λ (o : Outcome). afterOpening o bytes ≡ wholeWent area bytes) whole-opens
+      (λ some. sym (after-stops (refusal first-number noFloor area) bytes some) ∙ whole-refused some)
 
   pub whole-opened : (o : Outcome) → o ≡ opening → (w : Went) → w ≡ afterOpening o bytes → w ≡ wholeWent area bytes
   whole-opened o is w e = e ∙ ap (λ (y : Outcome). afterOpening y bytes) is ∙ follows
 
   -- refused before it opens
-  refused-first : (number : ℕ) → eqb number 0 ≡ false → firstOf (wholeChecks area bytes) ≡ number → (fl : Floor) → fl ≡ noFloor → refusal number fl area ≡ opening
+  refused-first : (number : ℕ) → eqb number 0 ≡ false → first-number ≡ number → (fl : Floor) → fl ≡ noFloor → refusal number fl area ≡ opening
   refused-first number some e fl none = rw (e, some, none)
 
-  whole-refused : (number : ℕ) → eqb number 0 ≡ false → (fl : Floor) → refusal number fl area ≡ opening → stopped number fl area ≡ wholeWent area bytes
-  whole-refused number some fl e = whole-opened (refusal number fl area) e (stopped number fl area) (after-stops (refusal number fl area) bytes (not-zero number some))
-
-  pub number-15 : length area ≢ mostNotes → firstOf (wholeChecks area bytes) ≡ 15
+  pub number-15 : length area ≢ mostNotes → first-number ≡ 15
   unfolding wholeChecks
   number-15 h = area-fails area _ h
 
   pub first-15 : length area ≢ mostNotes → (fl : Floor) → fl ≡ noFloor → refusal 15 fl area ≡ opening
-  first-15 h fl none = refused-first 15 refl (number-15 h) fl none
-
-  pub whole-15 : length area ≢ mostNotes → (fl : Floor) → fl ≡ noFloor → stopped 15 fl area ≡ wholeWent area bytes
-  whole-15 h fl none = whole-refused 15 refl fl (first-15 h fl none)
+  first-15 h = refused-first 15 refl (number-15 h)
 
   module _ (long : length area ≡ mostNotes) where
-    ragged : firstOf (wholeChecks area bytes) ≡ firstOf (16 when (eqb (length bytes) 0 || not (eqb (length bytes % 16) 0)) ∷ [])
+    ragged : first-number ≡ firstOf (16 when (eqb (length bytes) 0 || not (eqb (length bytes % 16) 0)) ∷ [])
     unfolding wholeChecks
     ragged = area-passes area _ long
 
     module _ (h : (eqb (length bytes) 0 || not (eqb (length bytes % 16) 0)) ≡ true) where
-      pub number-16 : firstOf (wholeChecks area bytes) ≡ 16
+      pub number-16 : first-number ≡ 16
       number-16 = ragged ∙ first-fails 16 (eqb (length bytes) 0 || not (eqb (length bytes % 16) 0)) [] h
 
       pub first-16 : (fl : Floor) → fl ≡ noFloor → refusal 16 fl area ≡ opening
-      first-16 fl none = refused-first 16 refl number-16 fl none
-
-      pub whole-16 : (fl : Floor) → fl ≡ noFloor → stopped 16 fl area ≡ wholeWent area bytes
-      whole-16 fl none = whole-refused 16 refl fl (first-16 fl none)
+      first-16 = refused-first 16 refl number-16
 
     module _ (h : (eqb (length bytes) 0 || not (eqb (length bytes % 16) 0)) ≡ false) where
       -- one record at least, and none cut short
@@ -203,19 +217,12 @@ module _ (area bytes : List ℕ) where
           let more : length bytes ≢ 0 = eqb-false (length bytes) 0 some in
           (omega arith, full)
 
-      pub number-0 : firstOf (wholeChecks area bytes) ≡ 0
+      pub number-0 : first-number ≡ 0
       number-0 = ragged ∙ first-passes 16 (eqb (length bytes) 0 || not (eqb (length bytes % 16) 0)) [] h ∙ first-none
 
       -- o is what the opening left
-      module _ (o : Outcome) (is : o ≡ opened area (actionOf (take 16 bytes))) where
-        pub first-0 : o ≡ opening
-        first-0 = rw (eq-eqb (firstOf (wholeChecks area bytes)) 0 number-0) is
-
-        pub whole-stops : (o .answer ≡ 0 → ⊥) → unbegun o ≡ wholeWent area bytes
-        whole-stops z = whole-opened o first-0 (unbegun o) (after-stops o bytes z)
-
-        pub whole-runs : o .answer ≡ 0 → (r : Went) → r ≡ wentFrom (length bytes / 16 - 1) (o .floor) (o .area) (take (length bytes - 16) (drop 16 bytes)) 0 0 → r ≡ wholeWent area bytes
-        whole-runs z r e = whole-opened o first-0 r (after-runs o bytes (records-there .0) z r e)
+      pub first-0 : (o : Outcome) → o ≡ opened area x → o ≡ opening
+      first-0 o is = rw (eq-eqb first-number 0 number-0) is
 
   -- what the records after an opening are carried out on, where it was not refused
   abbrev Begun : Outcome → Type 0
@@ -223,17 +230,11 @@ module _ (area bytes : List ℕ) where
 
   pub whole-ready : (o : Outcome) → o ≡ opening → Begun o
   unfolding wholeChecks
-  whole-ready o is = subst Begun (sym is) (cond-both Begun (eqb number 0) (opened area x) (refusal number noFloor area) made (λ e z. absurd (eqb-false number 0 e z)))
+  whole-ready o is = subst Begun (sym is) (opening-either Begun made (λ some z. absurd (some z)))
     where
-      number : ℕ
-      number = firstOf (wholeChecks area bytes)
-
-      x : Action
-      x = actionOf (take 16 bytes)
-
-      made : eqb number 0 ≡ true → Begun (opened area x)
-      made e z =
-          let clear = zero-passed (wholeChecks area bytes) (not-zero 15 refl, (not-zero 16 refl, tt)) (eqb-true number 0 e) in
+      made : first-number ≡ 0 → Begun (opened area x)
+      made none z =
+          let clear = zero-passed (wholeChecks area bytes) (not-zero 15 refl, (not-zero 16 refl, tt)) none in
           let fit : Fit (opened area x .floor) (opened area x .area) = opened-fit area x z in
           let long : length area ≡ mostNotes = eqb-true (length area) mostNotes (not-false (eqb (length area) mostNotes) (clear .0)) in
           (fit-shape (opened area x .floor) (opened area x .area) fit, fit .exact, records-there long (clear .1 .0) .0)
@@ -241,32 +242,10 @@ module _ (area bytes : List ℕ) where
   -- what holds where there is no floor, and of the run after an opening, holds of a whole sequence
   pub whole-either : (Q : Went → Type 0)
       → ((o : Outcome) → o .floor ≡ noFloor → Q (unbegun o))
-      → (let o = opened area (actionOf (take 16 bytes)) in o .answer ≡ 0 → Q (wentFrom (length bytes / 16 - 1) (o .floor) (o .area) (drop 16 bytes) 0 0))
+      → (let o = opened area x in o .answer ≡ 0 → Q (wentFrom (length bytes / 16 - 1) (o .floor) (o .area) (drop 16 bytes) 0 0))
       → Q (wholeWent area bytes)
-  whole-either Q none ran = ⊎-elim (λ l. long (eqb-true (length area) mostNotes l)) (λ l. refused 15 (whole-15 (eqb-false (length area) mostNotes l) noFloor refl)) (decided (eqb (length area) mostNotes))
-    where
-      x : Action
-      x = actionOf (take 16 bytes)
-
-      o : Outcome
-      o = opened area x
-
-      carried : List ℕ → Went
-      carried part = wentFrom (length bytes / 16 - 1) (o .floor) (o .area) part 0 0
-
-      ragged : Bool
-      ragged = eqb (length bytes) 0 || not (eqb (length bytes % 16) 0)
-
-      refused : (number : ℕ) → stopped number noFloor area ≡ wholeWent area bytes → Q (wholeWent area bytes)
-      refused number e = subst Q e (none (refusal number noFloor area) refl)
-
-      read : length area ≡ mostNotes → ragged ≡ false → Q (wholeWent area bytes)
-      read l h =
-          ⊎-elim
-          (λ e. let z : o .answer ≡ 0 = eqb-true (o .answer) 0 e in
-          subst Q (whole-runs l h o refl z (carried (drop 16 bytes)) (ap carried (sym (tail bytes 16 (records-there l h .0))))) (ran z))
-          (λ e. let z : o .answer ≢ 0 = eqb-false (o .answer) 0 e in subst Q (whole-stops l h o refl z) (none o (opened-none area x z)))
-          (decided (eqb (o .answer) 0))
-
-      long : length area ≡ mostNotes → Q (wholeWent area bytes)
-      long l = ⊎-elim (λ h. refused 16 (whole-16 l h noFloor refl)) (read l) (decided ragged)
+  whole-either Q none ran =
+      subst Q follows
+      (opening-either (λ (o : Outcome). Q (afterOpening o bytes))
+      (λ _. after-either (opened area x) bytes Q ran (λ z. none (opened area x) (opened-none area x z)))
+      (λ some. subst Q (after-stops (refusal first-number noFloor area) bytes some) (none (refusal first-number noFloor area) refl)))
