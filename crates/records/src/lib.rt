@@ -97,7 +97,7 @@ fn number_at(bytes: &[u8], at: usize) -> u32
         + 16777216 * wide(bytes[at + 3])
 }
 
-fn action_in(bytes: &[u8]) -> Action
+pub fn action_in(bytes: &[u8]) -> Action
     requires { ⌜ length (now bytes) ≡ 16 ⌝ }
     ensures { λ r. ⌜ r ≡ actionOf (now (bytes .entry)) ⌝ }
 {
@@ -140,7 +140,7 @@ fn put_number(place: &mut [u8], at: usize, number: u32)
     place[at + 3] = (number / 16777216) as u8;
 }
 
-fn put_action(action: Action, place: &mut [u8])
+pub fn put_action(action: Action, place: &mut [u8])
     requires { ⌜ length (now place) ≡ 16 ⌝ }
     ensures { λ _. ⌜ now (place .exit) ≡ bytesOf action ⌝ }
 {
