@@ -1,0 +1,10 @@
+pub mod Examples
+pub mod NumberLaws
+pub mod ReadOnLaws
+pub mod WidthLaws
+pub mod HeldLaws
+pub mod EndingLaws
+pub mod EndsLaws
+pub mod FieldLaws
+pub mod RowLaws
+pub mod NextLaws
