@@ -1,0 +1,5 @@
+pub mod RangeLaws
+pub mod ColumnLaws
+pub mod ReadLaws
+pub mod PlaceLaws
+mod ReaderLaws
