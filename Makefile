@@ -1,5 +1,5 @@
 # README.md says what each command is for. The gate's last line is its verdict, so its recipe prints nothing of its own.
-.PHONY: run hold picture test check compare bench stack fmt
+.PHONY: run hold from_csv to_csv picture test check compare bench stack fmt
 
 # The sequence that the program is run on: make run SEQ=file
 SEQ = examples/first-look/sequence.seq
@@ -15,6 +15,20 @@ hold:
 	@mkdir -p target
 	@rt check hold > target/hold.log 2>&1 || { cat target/hold.log; exit 1; }
 	@tests/run-program target/bin/hold < '$(SEQ)'
+
+# The CSV text that is read: make from_csv CSV=file > sequence.seq
+CSV = examples/first-look/table.csv
+
+from_csv:
+	@mkdir -p target
+	@rt check from_csv > target/from_csv.log 2>&1 || { cat target/from_csv.log >&2; exit 1; }
+	@tests/run-program target/bin/from_csv < '$(CSV)'
+
+# A sequence as a CSV text: make to_csv SEQ=file > plan.csv
+to_csv:
+	@mkdir -p target
+	@rt check to_csv > target/to_csv.log 2>&1 || { cat target/to_csv.log >&2; exit 1; }
+	@tests/run-program target/bin/to_csv < '$(SEQ)'
 
 # The run of a sequence, drawn: make picture SEQ=file > picture.svg
 picture:
