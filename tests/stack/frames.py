@@ -17,6 +17,8 @@ BELOW = re.compile(r"-0x([0-9a-f]+)\(%rsp")
 MOVES = re.compile(r"\$(-?0x[0-9a-f]+), %rsp")
 # What moves the stack pointer besides in ways that the compiler does not take here.
 OTHERS = re.compile(r"(?:push|pop)(?:w|fq?)|leaveq?|enterq?")
+# A function that calls itself, and how many of its calls are under way at once at most: a number has 20 digits.
+ROUNDS = {"texts::digits": 20}
 PADDING = re.compile(r"nop|data16|int3|cs$")
 
 
@@ -176,6 +178,14 @@ def read(clang, path):
     return functions
 
 
+def rounds_of(own):
+    """What stands on the stack of a function's calls of itself, when it has called itself for the last time."""
+    depths = [depth for depth, callee in own.calls if callee == own.name]
+    if depths and own.name not in ROUNDS:
+        raise Unreadable(f"{own.name} calls itself")
+    return (ROUNDS[own.name] - 1) * max(depths) if depths else 0
+
+
 def deepest(functions, name, above=()):
     """The most stack that a function and all that it calls take together, and the way there: functions with their depths."""
     if name in above:
@@ -183,11 +193,14 @@ def deepest(functions, name, above=()):
     if name not in functions:
         return ADDRESS, [(name, ADDRESS)]
     own = functions[name]
-    best = own.frame, [(name, own.frame)]
+    rounds = rounds_of(own)
+    best = rounds + own.frame, [(name, rounds + own.frame)]
     for depth, callee in own.calls:
+        if callee == name:
+            continue
         below, way = deepest(functions, callee, (*above, name))
-        if depth + below > best[0]:
-            best = depth + below, [(name, depth), *way]
+        if rounds + depth + below > best[0]:
+            best = rounds + depth + below, [(name, rounds + depth), *way]
     return best
 
 

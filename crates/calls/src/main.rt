@@ -3,6 +3,8 @@
 use holds::Hold;
 use records::Action;
 use sets::EntryNo;
+ghost use Prim.Native.Nat.{_≤_};
+ghost use lib.ListN.{length};
 
 fn line(name: &[u8], number: u64) {
     io::write_all(libc::STDOUT_FILENO, name);
@@ -65,6 +67,26 @@ fn whole_calls(sequence: &[u8]) {
     line(b"whole with a hold", taken.count as u64);
 }
 
+// Answers how long the text is.
+fn write_table(sequence: &[u8], text: &mut [u8]) -> usize
+    ensures { λ r. ⌜ r ≤ length (now (text .entry)) ⌝ }
+{
+    let written = tables::write(sequence, text);
+    written.length
+}
+
+// `read_row` makes a reader and takes its next row. A function with a reader of its own would need a proof by hand.
+fn table_calls(sequence: &[u8]) {
+    let mut text = [0u8; 4096];
+    let length = write_table(sequence, &mut text);
+    let rows = &text[..length];
+    let mut place = [0u8; 4096];
+    let read = tables::read(rows, &mut place);
+    line(b"write a table", length as u64);
+    line(b"read a table", read.length as u64);
+    line(b"read row", rows::read_row(rows, 0).next as u64);
+}
+
 fn main() {
     let mut input = [0u8; 4096];
     let length = io::read_full(libc::STDIN_FILENO, &mut input);
@@ -74,4 +96,5 @@ fn main() {
     hold_calls(opening, action, action.entry);
     none_calls(action.entry);
     whole_calls(&input[..length]);
+    table_calls(&input[..length]);
 }

@@ -1,7 +1,9 @@
-// A whole sequence for a program in another language: all that `runs::whole` gives, in one struct that such a program
-// can take. tests/bench times this call.
+// Calls for a program in another language. A whole sequence: all that `runs::whole` gives, in one struct that such a
+// program can take; and a table, read and written. tests/bench times these calls.
+use tables::Outcome;
 ghost use mathlib.Core.Path.{_≡_};
 ghost use Rattle.runs.specs.Runs.{wholeWent};
+ghost use Rattle.tables.specs.Tables.{readInto, writtenInto};
 ghost use Rattle.speed.specs.Reports.{reported};
 
 #[repr(C)]
@@ -58,4 +60,18 @@ pub extern "C" fn umidezh_run_whole(area: &mut [u64], sequence: &[u8]) -> Report
         sent: sent,
         received: received,
     }
+}
+
+#[no_mangle]
+pub extern "C" fn umidezh_read_table(text: &[u8], place: &mut [u8]) -> Outcome
+    ensures { λ r. ⌜ record { outcome = r; place = now (place .exit) } ≡ readInto (now (text .entry)) (now (place .entry)) ⌝ }
+{
+    tables::read(text, place)
+}
+
+#[no_mangle]
+pub extern "C" fn umidezh_write_table(sequence: &[u8], place: &mut [u8]) -> Outcome
+    ensures { λ r. ⌜ record { outcome = r; place = now (place .exit) } ≡ writtenInto (now (sequence .entry)) (now (place .entry)) ⌝ }
+{
+    tables::write(sequence, place)
 }

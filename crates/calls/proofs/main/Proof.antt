@@ -60,6 +60,15 @@ slice-aggregate-whole-calls c = search needs
 whole-calls-requires : tie.Need-whole-calls-requires
 whole-calls-requires c κs = search needs
 
+array-share-prefix-input-4 : tie.Need-array-share-prefix-input-4
+array-share-prefix-input-4 c = search needs
+
+slice-aggregate-table-calls : tie.Need-slice-aggregate-table-calls
+slice-aggregate-table-calls c = search needs
+
+table-calls-requires : tie.Need-table-calls-requires
+table-calls-requires c κs = search needs
+
 returns : tie.Need-returns
 returns c = search needs
 
@@ -85,4 +94,7 @@ main-spec =
     array-share-prefix-input-3
     slice-aggregate-whole-calls
     whole-calls-requires
+    array-share-prefix-input-4
+    slice-aggregate-table-calls
+    table-calls-requires
     returns)
