@@ -1,39 +1,21 @@
 -- The numbers that a row's fields hold, kept one after another, are the row's columns. Assumes nothing.
 use mathlib.Core.Path.{_≡_, refl, sym, _∙_}
-use mathlib.Core.Bool.{Bool, true, false, cond, _&&_, true≢false}
+use mathlib.Core.Bool.{true, false, cond, true≢false}
 use mathlib.Core.List.{List, [], _∷_, _++_, map, append-assoc, append-nil}
 use mathlib.Core.Logic.{_⊎_, inl, inr}
 use Prim.Native.Nat.{ℕ, zero, suc, _+_, _-_, _≤_, _<_}
 use native.Mathlib.Omega.{arith}
-use lib.Dec.{eqb, ltb}
+use lib.Dec.{eqb}
 use lib.ListN.{length, getD, set, take, drop, replicate, length-append}
 use lib.Seq.{take-nil, set-out, set-append-seam}
-use borrow.Author.Tests.{ltb-true, ltb-false, lt-ltb, le-ltb, eqb-true}
+use borrow.Author.Tests.{eqb-true}
 use Rattle.sets.proofs.Tests.{decided, and-left, and-right}
-use Rattle.rules.specs.Rules.{firstOf}
 use Rattle.fields.specs.Grammar.{Front}
-use Rattle.fields.specs.Numbers.{noNumber, numberBelow, numberIn, spelled, valueOf}
+use Rattle.fields.proofs.SpellingLaws.{number-below, number-is}
+use Rattle.fields.specs.Numbers.{noNumber, numberBelow, numberIn, valueOf}
 use Rattle.rows.specs.declared.Row.{Row}
+use Rattle.rows.proofs.AnswerLaws.{answer-21, answer-19, answer-20, answer-0}
 use Rattle.rows.specs.Rows.{limits, numbersFit, rowAnswer, columns, actionIn, allBelow, actionOfNumbers, refusedRow, rowOfNumbers}
-
--- ---- one column
-
--- a number of a field below a limit
-number-below : (limit : ℕ) (field : List ℕ) → limit ≤ noNumber → ltb (numberIn field) limit ≡ numberBelow limit field
-unfolding numberIn numberBelow
-number-below limit field small = go (spelled field) (decided (ltb (valueOf field) noNumber))
-  where
-    go : (s : Bool) → (ltb (valueOf field) noNumber ≡ true) ⊎ (ltb (valueOf field) noNumber ≡ false)
-        → ltb (cond (s && ltb (valueOf field) noNumber) (valueOf field) noNumber) limit ≡ (s && ltb (valueOf field) limit)
-    go false d = le-ltb noNumber limit small
-    go true (inl t) = rw t
-    go true (inr f) = rw (f, le-ltb noNumber limit small, le-ltb (valueOf field) limit (omega (arith, small, ltb-false (valueOf field) noNumber f)))
-
-number-is : (limit : ℕ) (field : List ℕ) → limit ≤ noNumber → numberBelow limit field ≡ true → numberIn field ≡ valueOf field
-unfolding numberIn numberBelow
-number-is limit field small e =
-    let below : valueOf field < limit = ltb-true (valueOf field) limit (and-right (spelled field) (ltb (valueOf field) limit) e) in
-    rw (and-left (spelled field) (ltb (valueOf field) limit) e, lt-ltb (valueOf field) noNumber (omega (arith, below, small))) refl
 
 -- ---- the columns that have a limit
 
@@ -114,7 +96,7 @@ columns-kept fields e =
     rw (number 0 (omega arith), number 1 (omega arith), number 2 (omega arith), number 3 (omega arith), number 4 (omega arith), number 5 (omega arith), number 6 (omega arith)) refl
 
 pub row-read : (text : List ℕ) (row : Front (List ℕ)) → rowAfter text blank 0 row ≡ rowSeen text row
-unfolding rowAfter rowOfNumbers rowAnswer actionIn firstOf
+unfolding rowAfter rowOfNumbers actionIn
 row-read text row = go (decided (row .allowed)) (decided (eqb (length (row .holds)) 8)) (decided (numbersFit limits (row .holds)))
   where
     all : 0 + length (row .holds) ≡ length (row .holds)
@@ -125,8 +107,8 @@ row-read text row = go (decided (row .allowed)) (decided (eqb (length (row .hold
 
     go : (row .allowed ≡ true) ⊎ (row .allowed ≡ false) → (eqb (length (row .holds)) 8 ≡ true) ⊎ (eqb (length (row .holds)) 8 ≡ false)
         → (numbersFit limits (row .holds) ≡ true) ⊎ (numbersFit limits (row .holds) ≡ false) → rowAfter text blank 0 row ≡ rowSeen text row
-    go (inr f) eight fit = rw f refl
-    go (inl t) (inr f) fit = rw (t, all, f) refl
-    go (inl t) (inl eight) (inr f) = rw (t, all, eight, kept eight, numbers-fit limits (row .holds) small, f) refl
+    go (inr f) eight fit = rw (answer-21 row f, f) refl
+    go (inl t) (inr f) fit = rw (answer-19 row t f, t, all, f) refl
+    go (inl t) (inl eight) (inr f) = rw (answer-20 row t eight f, t, all, eight, kept eight, numbers-fit limits (row .holds) small, f) refl
     go (inl t) (inl eight) (inl fit) =
-        rw (t, all, eight, kept eight, numbers-fit limits (row .holds) small, fit, columns-kept (row .holds) fit) refl
+        rw (answer-0 row t eight fit, t, all, eight, kept eight, numbers-fit limits (row .holds) small, fit, columns-kept (row .holds) fit) refl

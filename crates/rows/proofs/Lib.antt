@@ -1,3 +1,4 @@
+pub mod AnswerLaws
 pub mod RangeLaws
 pub mod ColumnLaws
 pub mod ReadLaws

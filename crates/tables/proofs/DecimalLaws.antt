@@ -1,18 +1,17 @@
 -- A number in decimal digits is spelled as a field's number is, and its value is the number. Assumes nothing.
-use mathlib.Core.Path.{_≡_, refl, ap, _∙_}
-use mathlib.Core.Bool.{true, false, not, _&&_, false≢true}
+use mathlib.Core.Path.{_≡_, _∙_}
+use mathlib.Core.Bool.{true}
 use mathlib.Core.Logic.{⊎-elim}
-use mathlib.Core.List.{List, [], _∷_, _++_}
-use Prim.Native.Nat.{ℕ, suc, _+_, _-_, _*_, _/_, _%_, _≤_, _<_}
+use mathlib.Core.List.{[], _∷_}
+use Prim.Native.Nat.{ℕ, suc, _+_, _-_, _/_, _%_, _≤_, _<_}
 use native.Mathlib.Omega.{arith}
-use lib.Dec.{eqb}
 use lib.ListN.{length, getD, List·getD-append}
-use borrow.Author.Tests.{lt-ltb, ne-eqb}
-use Rattle.sets.proofs.Tests.{le-or-lt, and-left, and-right, and-both}
+use Rattle.sets.proofs.Tests.{le-or-lt}
 use Rattle.texts.specs.Texts.{decimal}
 use Rattle.texts.proofs.PutLaws.{decimal-small, decimal-more, decimal-one, decimal-longer}
 use Rattle.fields.proofs.NumberLaws.{digit-is}
-use Rattle.fields.specs.Numbers.{digit, digits, spelled, valueAfter, numberBelow}
+use Rattle.fields.proofs.SpellingLaws.{digits-append, one-digit, spelled-more, spelled-one, value-append, value-one, number-fits}
+use Rattle.fields.specs.Numbers.{digits, spelled, valueAfter, numberBelow}
 
 -- what holds of each digit, and of a number where it holds of its tenth, holds of every number
 by-tenths : (Q : ℕ → Type 0) → ((n : ℕ) → n < 10 → Q n) → ((n : ℕ) → 10 ≤ n → Q (n / 10) → Q n) → (n : ℕ) → Q n
@@ -22,16 +21,6 @@ by-tenths Q small more n = below (suc n) n (omega arith)
     below (suc k) n h = ⊎-elim (λ (l : 10 ≤ n). more n l (below k (n / 10) (omega arith))) (λ (l : n < 10). small n l) (le-or-lt 10 n)
 
 -- ---- digits
-
-digits-append : (xs ys : List ℕ) → digits xs ≡ true → digits ys ≡ true → digits (xs ++ ys) ≡ true
-unfolding digits
-digits-append [] ys p q = q
-digits-append (x ∷ xs) ys p q =
-    and-both (digit x) (digits (xs ++ ys)) (and-left (digit x) (digits xs) p) (digits-append xs ys (and-right (digit x) (digits xs) p) q)
-
-one-digit : (d : ℕ) → digit d ≡ true → digits (d ∷ []) ≡ true
-unfolding digits
-one-digit d e = and-both (digit d) true e refl
 
 pub decimal-digits : (n : ℕ) → digits (decimal n) ≡ true
 decimal-digits =
@@ -53,22 +42,6 @@ decimal-first =
     (λ n h some. rw (decimal-small n h) (omega arith))
     (λ n h tenth some. rw (decimal-more n h, List·getD-append (decimal (n / 10)) ((48 + n % 10) ∷ []) 0 0 (decimal-some (n / 10))) (tenth (omega arith)))
 
-spelled-more : (field : List ℕ) (d : ℕ) → spelled field ≡ true → 48 < getD field 0 0 → digit d ≡ true → spelled (field ++ (d ∷ [])) ≡ true
-unfolding spelled
-spelled-more [] d s first e = absurd (false≢true s)
-spelled-more (byte ∷ []) d s first e =
-    and-both (digit byte && not (eqb byte 48)) (digits (d ∷ []))
-    (and-both (digit byte) (not (eqb byte 48)) s (ap not (ne-eqb byte 48 (omega arith))))
-    (one-digit d e)
-spelled-more (byte ∷ next ∷ bytes) d s first e =
-    let front = digit byte && not (eqb byte 48) in
-    and-both front (digits (next ∷ bytes ++ (d ∷ []))) (and-left front (digits (next ∷ bytes)) s)
-    (digits-append (next ∷ bytes) (d ∷ []) (and-right front (digits (next ∷ bytes)) s) (one-digit d e))
-
-spelled-one : (d : ℕ) → digit d ≡ true → spelled (d ∷ []) ≡ true
-unfolding spelled
-spelled-one d e = e
-
 pub decimal-spelled : (n : ℕ) → spelled (decimal n) ≡ true
 decimal-spelled =
     by-tenths
@@ -78,15 +51,6 @@ decimal-spelled =
 
 -- ---- value
 
-value-append : (xs ys : List ℕ) (n : ℕ) → valueAfter n (xs ++ ys) ≡ valueAfter (valueAfter n xs) ys
-unfolding valueAfter
-value-append [] ys n = refl
-value-append (x ∷ xs) ys n = value-append xs ys (10 * n + (x - 48))
-
-value-one : (n d : ℕ) → valueAfter n ((48 + d) ∷ []) ≡ 10 * n + d
-unfolding valueAfter
-value-one n d = omega arith
-
 pub decimal-value : (n : ℕ) → valueAfter 0 (decimal n) ≡ n
 decimal-value =
     by-tenths
@@ -95,5 +59,4 @@ decimal-value =
     (λ n h tenth. rw (decimal-more n h, value-append (decimal (n / 10)) ((48 + n % 10) ∷ []) 0, tenth) (value-one (n / 10) (n % 10) ∙ omega arith))
 
 pub decimal-below : (limit n : ℕ) → n < limit → numberBelow limit (decimal n) ≡ true
-unfolding numberBelow
-decimal-below limit n h = rw (decimal-spelled n, decimal-value n) (lt-ltb n limit h)
+decimal-below limit n h = number-fits limit (decimal n) (decimal-spelled n) (rw (decimal-value n) h)

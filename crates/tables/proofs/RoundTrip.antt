@@ -1,26 +1,23 @@
 -- "Reading what was written gives the same records", of every sequence; and what is read of any text is a sequence, so that what was
 -- read, written and read again is the same. Assumes nothing.
 use mathlib.Core.Path.{_≡_, refl, sym, ap, _∙_}
-use mathlib.Core.Bool.{true, false, not, false≢true}
 use mathlib.Core.List.{List, [], _∷_, _++_}
-use Prim.Native.Nat.{ℕ, zero, suc, _+_, _*_, _/_, _%_, _≤_, _<_}
+use Prim.Native.Nat.{ℕ, zero, suc, _+_, _*_, _/_, _%_, _≤_}
 use native.Mathlib.Omega.{arith}
-use lib.Dec.{eqb, ltb}
-use lib.ListN.{length, getD, take, drop, length-append}
+use lib.Dec.{eqb}
+use lib.ListN.{length, take, drop, length-append}
 use lib.Seq.{getD-drop, drop-drop, take-add, take-all, take-append-seam}
-use borrow.Author.Tests.{not-false, eqb-true, eqb-false, ltb-true}
-use Rattle.sets.proofs.Tests.{and-left, and-right, cond-both}
-use Rattle.rules.specs.Rules.{Check, _when_}
-use Rattle.rules.proofs.CheckLaws.{zero-passed, not-zero}
+use borrow.Author.Tests.{eqb-true, eqb-false}
+use Rattle.sets.proofs.Tests.{cond-both}
 use Rattle.records.specs.Records.{Bytes, Fits, actionOf, bytesOf, recordAt}
 use Rattle.records.specs.declared.Action.{Action}
 use Rattle.records.proofs.NumberLaws.{append-bytes}
 use Rattle.records.proofs.RecordLaws.{bytes-length}
 use Rattle.records.proofs.LeadingLaws.{record-long}
 use Rattle.records.proofs.RoundTrip.{action-fits, bytes-back, bytes-of-bytes}
-use Rattle.fields.specs.Grammar.{Front, rowOf}
-use Rattle.fields.specs.Numbers.{spelled, valueOf, numberBelow}
-use Rattle.rows.specs.Rows.{limits, numbersFit, rowAnswer, columns}
+use Rattle.fields.specs.Grammar.{rowOf}
+use Rattle.rows.proofs.AnswerLaws.{columns-fit}
+use Rattle.rows.specs.Rows.{rowAnswer, columns}
 use Rattle.tables.specs.Tables.{Placed, Table, _andThen_, badRow, tableIn, tableOf, readInto, rowText, rowsFrom, textOf, writtenInto}
 use Rattle.tables.proofs.TableLaws.{all, tableFrom, from-none, from-good}
 use Rattle.tables.proofs.PlacedLaws.{placed, put-fits, read-either}
@@ -79,30 +76,6 @@ none-sequence = record { bytes = λ i. omega arith; whole = refl }
 
 append-sequence : (xs ys : List ℕ) → Sequence xs → Sequence ys → Sequence (xs ++ ys)
 append-sequence xs ys p q = record { bytes = append-bytes xs ys (p .bytes) (q .bytes); whole = omega (arith, length-append xs ys, p .whole, q .whole) }
-
-numbers-below : (most : List ℕ) (fields : List (List ℕ)) → numbersFit most fields ≡ true → (i : ℕ) → i < length most → valueOf (getD fields i []) < getD most i 0
-unfolding numbersFit numberBelow
-numbers-below [] fields e i h = absurd (omega arith)
-numbers-below (limit ∷ most) [] e i h = absurd (false≢true e)
-numbers-below (limit ∷ most) (field ∷ fields) e zero h =
-    ltb-true (valueOf field) limit (and-right (spelled field) (ltb (valueOf field) limit) (and-left (numberBelow limit field) (numbersFit most fields) e))
-numbers-below (limit ∷ most) (field ∷ fields) e (suc i) h = numbers-below most fields (and-right (numberBelow limit field) (numbersFit most fields) e) i (omega arith)
-
-pub columns-fit : (row : Front (List ℕ)) → rowAnswer row ≡ 0 → Fits (columns (row .holds))
-unfolding rowAnswer columns
-columns-fit row e =
-    let checks : List Check = 21 when not (row .allowed) ∷ 19 when not (eqb (length (row .holds)) 8) ∷ 20 when not (numbersFit limits (row .holds)) ∷ [] in
-    let (_, (_, (fit, _))) = zero-passed checks (not-zero 21 refl, (not-zero 19 refl, (not-zero 20 refl, tt))) e in
-    let below = numbers-below limits (row .holds) (not-false (numbersFit limits (row .holds)) fit) in
-    record {
-      kind = below 0 (omega arith);
-      desk = below 1 (omega arith);
-      other = below 2 (omega arith);
-      entry = below 3 (omega arith);
-      a = below 4 (omega arith);
-      b = below 5 (omega arith);
-      c = below 6 (omega arith);
-    }
 
 record-sequence : (x : Action) → Fits x → Sequence (bytesOf x)
 record-sequence x fits = record { bytes = bytes-of-bytes x fits; whole = omega (arith, bytes-length x) }
