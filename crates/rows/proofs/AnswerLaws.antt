@@ -26,7 +26,7 @@ module _ (row : Front (List ℕ)) where
 
   pub answer-21 : row .allowed ≡ false → rowAnswer row ≡ 21
   unfolding rowAnswer
-  answer-21 f = first-fails 21 (not (row .allowed)) (fieldCheck ∷ numberCheck ∷ []) (ap not f)
+  answer-21 f = first-fails 21 (not (row .allowed)) _ (ap not f)
 
   module _ (allowed : row .allowed ≡ true) where
     by-fields : rowAnswer row ≡ firstOf (fieldCheck ∷ numberCheck ∷ [])
