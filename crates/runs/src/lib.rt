@@ -1,5 +1,7 @@
 // Runs of action records: a run on a floor, the part of the sequence that it has not carried out, and a whole
 // sequence, which opens its floor itself.
+#![tactic(auto)]
+
 ghost use Rattle.std.specs.Prelude.{◌≡◌, true, cond, ◌+◌, ◌≤◌, min, eqb, length, take};
 ghost use Rattle.rules.specs.Rules.{first_of, most_notes};
 ghost use Rattle.rules.specs.NewSources.{sizes};
@@ -129,6 +131,7 @@ pub fn rest(sequence: &[u8], count: usize) -> &[u8]
 }
 
 // The opening of a whole sequence, by its first record.
+#[inline(never)]
 fn open_first(area: &mut [u64], sequence: &[u8]) -> Acted
     ensures { let number = first_of (whole_checks area.old sequence.now) in
         record { new = result.new; out = record { answer = result.answer; floor = result.floor; area = area.new } }
@@ -197,27 +200,20 @@ pub fn whole(area: &mut [u64], sequence: &[u8]) -> Ran
     ensures { (record { count = result.count; total = result.total; out = record { answer = result.answer; floor = result.floor; area = area.new } } ≡ whole_went area.old sequence.now)
         × (sizes result.floor.received ≡ result.total) }
 {
-    let opened = open_first(area, sequence);
-    let floor = opened.floor;
-    let settings = floor.settings;
-    let mut faulty = floor.faulty;
-    let mut pass = floor.pass;
-    let mut accept = floor.accept;
-    let mut listed = floor.listed;
-    let mut sent = floor.sent;
-    let mut received = floor.received;
+    let mut opened = open_first(area, sequence);
+    let settings = opened.floor.settings;
     let tally = run_opened(
         opened.answer,
         settings,
-        floor.clock,
-        floor.waiting,
+        opened.floor.clock,
+        opened.floor.waiting,
         sequence,
-        &mut faulty,
-        &mut pass,
-        &mut accept,
-        &mut listed,
-        &mut sent,
-        &mut received,
+        &mut opened.floor.faulty,
+        &mut opened.floor.pass,
+        &mut opened.floor.accept,
+        &mut opened.floor.listed,
+        &mut opened.floor.sent,
+        &mut opened.floor.received,
         area,
     );
     Ran {
@@ -228,12 +224,12 @@ pub fn whole(area: &mut [u64], sequence: &[u8]) -> Ran
             settings: settings,
             clock: tally.clock,
             waiting: tally.waiting,
-            faulty: faulty,
-            pass: pass,
-            accept: accept,
-            listed: listed,
-            sent: sent,
-            received: received,
+            faulty: opened.floor.faulty,
+            pass: opened.floor.pass,
+            accept: opened.floor.accept,
+            listed: opened.floor.listed,
+            sent: opened.floor.sent,
+            received: opened.floor.received,
         },
     }
 }
