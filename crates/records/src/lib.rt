@@ -1,5 +1,7 @@
 // The action record: sixteen bytes read, written, checked and counted. Form only: what an action does to a floor is
 // not looked at here, and desks and entries from 0 to 255 are read as they stand.
+#![tactic(auto)]
+
 ghost use Rattle.std.specs.Prelude.{◌≡◌, ◌+◌, ◌≤◌, ◌<◌, length};
 ghost use Rattle.std.proofs.lemmas.List.Edits.{sets};
 ghost use Rattle.records.specs.Records.{
@@ -17,7 +19,7 @@ ghost use Rattle.records.specs.Records.{
 
 use sets::{DeskNo, EntryNo};
 
-#[derive(Drop)]
+#[derive(Clone, Copy)]
 pub struct Action {
     pub kind: u8,
     pub desk: DeskNo,
@@ -28,7 +30,7 @@ pub struct Action {
     pub c: u32,
 }
 
-#[derive(Drop)]
+#[derive(Clone, Copy)]
 pub struct Reading {
     pub answer: u8,
     pub action: Action,
@@ -167,17 +169,15 @@ pub fn write(action: Action, place: &mut [u8]) -> u8
     0
 }
 
-// For C: the form of one record, 0, 3 or 16.
-#[unsafe(no_mangle)]
-pub extern "C" fn umidezh_check_record(bytes: &[u8]) -> u8
+// The form of one record, 0, 3 or 16.
+pub fn umidezh_check_record(bytes: &[u8]) -> u8
     ensures { result ≡ check_of bytes.now }
 {
     read(bytes).answer
 }
 
-// For C: how many records are well formed before the first that is not.
-#[unsafe(no_mangle)]
-pub extern "C" fn umidezh_count_records(sequence: &[u8]) -> usize
+// How many records are well formed before the first that is not.
+pub fn umidezh_count_records(sequence: &[u8]) -> usize
     ensures { result ≡ leading sequence.now }
 {
     let whole = sequence.len() / 16;

@@ -1,5 +1,7 @@
-// Calls for a program in another language. A whole sequence: all that `runs::whole` gives, in one struct that such a
-// program can take; and a table, read and written. tests/bench times these calls.
+// What the calls for a program in another language do, which speed_c exports. A whole sequence: all that `runs::whole`
+// gives, in one struct that such a program can take; and a table, read and written. tests/bench times these calls.
+#![tactic(auto)]
+
 ghost use Rattle.std.specs.Prelude.{◌≡◌};
 ghost use Rattle.runs.specs.Runs.{whole_went};
 ghost use Rattle.tables.specs.Tables.{read_into, written_into};
@@ -8,7 +10,7 @@ ghost use Rattle.speed.specs.Reports.{reported};
 use tables::Outcome;
 
 #[repr(C)]
-#[derive(Drop)]
+#[derive(Clone, Copy)]
 pub struct Report {
     pub count: usize,
     pub total: usize,
@@ -29,8 +31,7 @@ pub struct Report {
     pub received: [u16; 1024],
 }
 
-#[unsafe(no_mangle)]
-pub extern "C" fn umidezh_run_whole(area: &mut [u64], sequence: &[u8]) -> Report
+pub fn umidezh_run_whole(area: &mut [u64], sequence: &[u8]) -> Report
     ensures { record { report = result; area = area.new }
         ≡ reported (whole_went area.old sequence.now) }
 {
@@ -64,15 +65,13 @@ pub extern "C" fn umidezh_run_whole(area: &mut [u64], sequence: &[u8]) -> Report
     }
 }
 
-#[unsafe(no_mangle)]
-pub extern "C" fn umidezh_read_table(text: &[u8], place: &mut [u8]) -> Outcome
+pub fn umidezh_read_table(text: &[u8], place: &mut [u8]) -> Outcome
     ensures { record { outcome = result; place = place.new } ≡ read_into text.now place.old }
 {
     tables::read(text, place)
 }
 
-#[unsafe(no_mangle)]
-pub extern "C" fn umidezh_write_table(sequence: &[u8], place: &mut [u8]) -> Outcome
+pub fn umidezh_write_table(sequence: &[u8], place: &mut [u8]) -> Outcome
     ensures { record { outcome = result; place = place.new } ≡ written_into sequence.now place.old }
 {
     tables::write(sequence, place)
