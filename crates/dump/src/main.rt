@@ -1,12 +1,17 @@
 // For tests of what the program `floor` keeps to itself: prints what `floor` prints, then how many sources were new, the
 // waiting notes in the order of the area, and the sets of sources and of sent entries that are not empty, as numbers; and
 // then what the call for one action gives for each record.
+#![tactic(auto)]
+
 pub mod acting;
 
-ghost use Rattle.std.specs.Prelude.{◌+◌, ◌*◌, ◌≤◌, length};
+ghost use Rattle.std.specs.Prelude.{◌≡◌, ◌+◌, ◌*◌, ◌≤◌, length};
 
 use crate::acting::acts;
+use inputs::read_input;
 use sequences::Ran;
+use std::io;
+use std::io::Write;
 use texts::{field, word};
 
 fn total_line(out: &mut [u8], at: usize, total: usize) -> usize
@@ -54,7 +59,7 @@ fn note(out: &mut [u8], at: usize, packed: u64) -> usize
 
 fn waiting_notes(out: &mut [u8], at: usize, area: &[u64], waiting: usize) -> usize
     requires waiting_in_bounds { waiting ≤ length area.now }
-    requires waiting_in_bounds_2 { at + 89 * waiting ≤ length out.old }
+    requires room_for_the_lines { at + 89 * waiting ≤ length out.old }
     ensures { result ≤ at + 89 * waiting }
 {
     let mut next = at;
@@ -140,15 +145,22 @@ fn all_lines(out: &mut [u8], area: &[u64], ran: Ran) -> usize
     all_sent(out, d, marks)
 }
 
-fn main() {
+// Room for all that is printed. The proof of `main` has its length from here, because so many zeros are more than the checker
+// looks through.
+fn text_buffer() -> [u8; 554022]
+    ensures { 554022 ≡ length result }
+{
+    [0; 554022]
+}
+
+fn main(rt: HostRuntime) -> io::Result<()> {
     // One byte more than an input may have, so that a longer one is seen.
-    let mut input = [0u8; 65537];
-    let length = io::read_full(libc::STDIN_FILENO, &mut input);
+    let input = read_input(rt.alloc(), rt.stdin(), 65537)?;
     let mut area = [0u64; 2048];
-    let ran = lines::run_input(&mut area, &input[..length]);
+    let ran = lines::run_input(&mut area, &input);
     let was_opened = ran.floor.settings.n != 0;
-    let mut out = [0u8; 554022];
+    let mut out = text_buffer();
     let next = all_lines(&mut out, &area, ran);
-    let end = acts(&mut out, next, &mut area, &input[..length], was_opened);
-    io::write_all(libc::STDOUT_FILENO, &out[..end]);
+    let end = acts(&mut out, next, &mut area, &input, was_opened);
+    rt.stdout().write_all(&out[..end])
 }
