@@ -4,31 +4,26 @@
 # The sequence that the program is run on: make run SEQ=file
 SEQ = examples/first-look/sequence.seq
 
-# What rt prints is shown only if it fails, so that the program's lines stand alone.
 run:
-	@mkdir -p target
-	@rt check floor > target/run.log 2>&1 || { cat target/run.log; exit 1; }
-	@tests/run-program target/bin/floor < '$(SEQ)'
+	@tests/build floor
+	@crates/floor/out/floor < '$(SEQ)'
 
 # Which stickers may be printed after a sequence: make hold SEQ=file
 hold:
-	@mkdir -p target
-	@rt check hold > target/hold.log 2>&1 || { cat target/hold.log; exit 1; }
-	@tests/run-program target/bin/hold < '$(SEQ)'
+	@tests/build hold
+	@crates/hold/out/hold < '$(SEQ)'
 
 # The CSV text that is read: make from_csv CSV=file > sequence.seq
 CSV = examples/first-look/table.csv
 
 from_csv:
-	@mkdir -p target
-	@rt check from_csv > target/from_csv.log 2>&1 || { cat target/from_csv.log >&2; exit 1; }
-	@tests/run-program target/bin/from_csv < '$(CSV)'
+	@tests/build from_csv
+	@crates/from_csv/out/from_csv < '$(CSV)'
 
 # A sequence as a CSV text: make to_csv SEQ=file > plan.csv
 to_csv:
-	@mkdir -p target
-	@rt check to_csv > target/to_csv.log 2>&1 || { cat target/to_csv.log >&2; exit 1; }
-	@tests/run-program target/bin/to_csv < '$(SEQ)'
+	@tests/build to_csv
+	@crates/to_csv/out/to_csv < '$(SEQ)'
 
 # The run of a sequence, drawn: make picture SEQ=file > picture.svg
 picture:
@@ -39,13 +34,13 @@ test:
 	@tests/gate
 
 check:
-	@rt check
+	@rt all check
 
 # How many sequences are made; SEED=.. makes the same ones again.
 COUNT = 20000
 
 compare:
-	@rt check floor dump hold stickers >&2
+	@tests/build floor dump hold stickers
 	@tests/compare --count $(COUNT) $(if $(SEED),--seed $(SEED))
 
 # How often each row is measured; the best counts.
@@ -56,8 +51,8 @@ bench:
 
 # How much stack the public calls take.
 stack:
-	@rt check calls >&2
+	@tests/build floor hold dump stickers handed calls from_csv to_csv
 	@tests/stack/run
 
 fmt:
-	@rt fmt
+	@for crate in crates/*; do (cd $$crate && rt fmt) || exit 1; done
