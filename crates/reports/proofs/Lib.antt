@@ -1,0 +1,3 @@
+mod LineLaws
+pub mod InputLaws
+pub mod LengthLaws
