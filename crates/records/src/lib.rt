@@ -101,16 +101,24 @@ impl Record {
     }
 
     #[tactic(auto, unfolding(crate::specs::Records::bytes_of, crate::specs::Records::fields_of))]
-    pub fn to_bytes(self) -> [u8; 16]
-        ensures is { result ≡ bytes_of self }
-        ensures read_back { fields_of result ≡ self }
+    pub fn to_bytes(&self) -> [u8; 16]
+        ensures is { result ≡ bytes_of self.now }
+        ensures read_back { fields_of result ≡ self.now }
     {
-        let [a0, a1, a2, a3] = self.a.to_le_bytes();
-        let [b0, b1, b2, b3] = self.b.to_le_bytes();
-        let [c0, c1, c2, c3] = self.c.to_le_bytes();
-        let (desk, other, entry) = (self.desk.0, self.other.0, self.entry.0);
+        let Record {
+            kind,
+            desk,
+            other,
+            entry,
+            a,
+            b,
+            c,
+        } = *self;
+        let [a0, a1, a2, a3] = a.to_le_bytes();
+        let [b0, b1, b2, b3] = b.to_le_bytes();
+        let [c0, c1, c2, c3] = c.to_le_bytes();
         [
-            self.kind, desk, other, entry, a0, a1, a2, a3, b0, b1, b2, b3, c0, c1, c2, c3,
+            kind, desk.0, other.0, entry.0, a0, a1, a2, a3, b0, b1, b2, b3, c0, c1, c2, c3,
         ]
     }
 
@@ -143,9 +151,9 @@ impl Record {
 
     /// The action that the fields ask for: 3 for an opening, which asks for none, and for fields that are not well formed.
     #[tactic(auto, unfolding(crate::specs::Records::well_formed, crate::specs::Records::action_of))]
-    pub fn action(self) -> Result<Action, Refusal>
-        ensures is { result ≡ action_of self }
-        ensures only { IfOk result (λ action. record_of action ≡ self) }
+    pub fn action(&self) -> Result<Action, Refusal>
+        ensures is { result ≡ action_of self.now }
+        ensures only { IfOk result (λ action. record_of action ≡ self.now) }
     {
         let Record {
             desk,
@@ -153,7 +161,7 @@ impl Record {
             entry,
             a,
             ..
-        } = self;
+        } = *self;
         match self.kind {
             _ if !self.well_formed() => Err(Refusal::Form),
             kind::DELAY => Ok(Action::Delay { ticks: a }),
@@ -179,9 +187,9 @@ impl Record {
 
     /// The settings that the fields open a floor with: 3 for any other kind.
     #[tactic(auto, unfolding(crate::specs::Records::opening_of))]
-    pub fn opening(self) -> Result<Settings, Refusal>
-        ensures is { result ≡ opening_of self }
-        ensures only { IfOk result (λ settings. opening_record settings ≡ self) }
+    pub fn opening(&self) -> Result<Settings, Refusal>
+        ensures is { result ≡ opening_of self.now }
+        ensures only { IfOk result (λ settings. opening_record settings ≡ self.now) }
     {
         match self.kind {
             kind::OPENING => Ok(Settings {
@@ -215,12 +223,19 @@ impl Record {
         }
     }
 
+    /// The record that a reading gives: the record of zeros where the reading was refused.
+    pub fn given(reading: Result<Record, Refusal>) -> Record
+        ensures { result ≡ record_given reading }
+    {
+        reading.unwrap_or(Record::ZEROS)
+    }
+
     /// Writes the record into a place of sixteen bytes (16), if it is well formed (3).
     #[tactic(auto, unfolding(crate::specs::Records::read_of))]
-    pub fn write(self, place: &mut [u8]) -> Result<(), Refusal>
-        ensures answer { result ≡ put_answer self place.old }
-        ensures place { place.new ≡ written self place.old }
-        ensures read_back { IfOk result (λ _. read_of place.new ≡ Ok self) }
+    pub fn write(&self, place: &mut [u8]) -> Result<(), Refusal>
+        ensures answer { result ≡ put_answer self.now place.old }
+        ensures place { place.new ≡ written self.now place.old }
+        ensures read_back { IfOk result (λ _. read_of place.new ≡ Ok self.now) }
     {
         if place.len() != Record::LENGTH {
             return Err(Refusal::Length);
