@@ -1,5 +1,5 @@
 -- Laws of posting: what is posted next waits already where it waited before, and how many notes wait then. Assumes nothing.
-use Rattle.std.proofs.Common.{◌≡◌, ◌≢◌, ℕ, zero, suc, ◌+◌, ◌*◌, ◌<◌, ◌≤◌, Bool, true, false, ◌||◌, if◌then◌else◌, nat_eq, inl, inr, List, [], ◌∷◌, ◌++◌, length, take, drop, set, get_or, replicate, refl, sym, ◌∙◌, add-one, arith, length-append, length-take-le, subst}
+use Rattle.std.proofs.Common.{◌≡◌, ◌≢◌, ℕ, zero, suc, ◌+◌, ◌*◌, ◌/◌, ◌%◌, ◌<◌, ◌≤◌, Bool, true, false, ◌||◌, if◌then◌else◌, nat_eq, inl, inr, List, [], ◌∷◌, ◌++◌, length, take, drop, set, get_or, replicate, refl, sym, ◌∙◌, add-one, arith, length-append, length-take-le, subst}
 use native.Mathlib.Nat.{le_refl, le_trans, mul-le-mul_right}
 use Rattle.std.proofs.lemmas.Bool.{cases_eq, cases_lt}
 use Rattle.std.proofs.lemmas.List.{get_or_default, get_or-replicate}
@@ -94,6 +94,36 @@ module _ (ns : List ℕ) (t i e j : ℕ) where
       → set left count (note_of t i j e) ≡ post_all ns (broadcast t i e (j + 1)) ++ drop (count + 1) area
   written_new area left count h counted is within = rw (is, posted_new h) (set_behind (post_all ns (broadcast t i e j)) area count (note_of t i j e) counted within)
 
+-- the notes w, and of a broadcast those to the desks below j that did not wait: m in all
+abbrev pub Added : ℕ → List ℕ → ℕ → ℕ → ℕ → ℕ → ℕ → List ℕ → Type 0
+Added w area t i e j m left =
+    record {
+      count : m ≡ length (post_all (take w area) (broadcast t i e j));
+      reach : w ≤ m;
+      front : take w left ≡ take w area;
+      area : left ≡ post_all (take w area) (broadcast t i e j) ++ drop m area;
+    }
+
+-- one desk more
+module _ (w : ℕ) (area : List ℕ) (t i e j m : ℕ) (left : List ℕ) (a : Added w area t i e j m left) where
+  pub added_there : waits (take w area) (note_of t i j e) ≡ true → Added w area t i e (j + 1) m left
+  added_there h =
+      let same = posted_there (take w area) t i e j h in
+      record { count = rw same a.count; reach = a.reach; front = a.front; area = rw same a.area }
+
+  module _ (n : ℕ) (below : j < n) (room : length (post_all (take w area) (broadcast t i e n)) ≤ length area) (h : waits (take w area) (note_of t i j e) ≡ false) where
+    pub added_within : m < length area
+    added_within = omega (arith, a.count, length_new (take w area) t i e j h, posted_le (take w area) t i e j n below)
+
+    pub added_new : Added w area t i e (j + 1) (m + 1) (set left m (note_of t i j e))
+    added_new =
+        record {
+          count = omega (arith, a.count, length_new (take w area) t i e j h);
+          reach = omega (arith, a.reach);
+          front = front_kept area left w m (note_of t i j e) a.reach a.front;
+          area = written_new (take w area) t i e j area left m h a.count a.area added_within;
+        }
+
 -- so many wait after a broadcast
 pub length_posted : (ns : List ℕ) (t i e n : ℕ) → length (post_all ns (broadcast t i e n)) ≡ length ns + new_count ns (broadcast t i e n)
 length_posted ns t i e zero = omega (arith, new_start ns t i e)
@@ -138,6 +168,26 @@ reach_more sets x t i f d new other long few is byte is_new e j e_few j_few =
           let no : nat_eq x (note_of t i j e) ≡ false = rw is (let differ : note_of t i d f ≢ note_of t i j e = omega arith in grind arith) in
           rw (there, no) (grind arith))
     ]
+
+-- of sets of 16 desks each
+pub many_more : (sets : List ℕ) (x t i e d k r new other : ℕ) → length sets ≡ 16 → k ≡ d / 16 → r ≡ d % 16 → x ≡ note_of t i d e → d < 256 → new ≡ insert_below 16 (get_or sets k other) r
+    → (j : ℕ) → j < 256 → member (get_or (set sets k new) (j / 16) 0) (j % 16) ≡ (member (get_or sets (j / 16) 0) (j % 16) || nat_eq x (note_of t i j e))
+many_more sets x t i e d k r new other long at rest is byte is_new j j_few =
+    elim (cases_eq (j / 16) k) [
+      | inl same ↦
+          (let here : get_or (set sets k new) (j / 16) 0 ≡ new = grind (arith, elements) in
+          let was : get_or sets k other ≡ get_or sets (j / 16) 0 = rw same (get_or_default sets k other 0 (omega arith)) in
+          let low : r < 16 = omega arith in
+          let alike : nat_eq r (j % 16) ≡ nat_eq x (note_of t i j e) = rw is (grind arith) in
+          rw (here, is_new, was, insert_below_low 16 (get_or sets (j / 16) 0) r low, member_insert, alike) refl)
+      | inr apart ↦
+          (let there : get_or (set sets k new) (j / 16) 0 ≡ get_or sets (j / 16) 0 = grind (arith, elements) in
+          let no : nat_eq x (note_of t i j e) ≡ false = rw is (let differ : note_of t i d e ≢ note_of t i j e = omega arith in grind arith) in
+          rw (there, no) (grind arith))
+    ]
+
+pub none_of_many : (s j : ℕ) → s ≡ 0 → j < 256 → member (get_or (replicate 16 s) (j / 16) 0) (j % 16) ≡ false
+none_of_many s j none few = let here : ◌≡◌ {A = ℕ} (get_or (replicate 16 s) (j / 16) 0) s = get_or-replicate 16 (j / 16) s 0 (omega arith) in rw (here, none) (member_zero (j % 16))
 
 pub none_reached : (s e j : ℕ) → s ≡ 0 → e < 64 → member (get_or (replicate 64 s) e 0) j ≡ false
 none_reached s e j none few = let here : ◌≡◌ {A = ℕ} (get_or (replicate 64 s) e 0) s = get_or-replicate 64 e s 0 few in rw (here, none) (member_zero j)

@@ -1,5 +1,5 @@
 -- What is posted into an area that may have no room for it. The laws are in proofs/. Assumes nothing.
-use Rattle.std.specs.Prelude.{◌≡◌, ◌<◌, if◌then◌else◌, not, slice_index, List, ℕ, nat_lt, count_by, length, Result, Ok, Err, ⊤}
+use Rattle.std.specs.Prelude.{◌≡◌, ◌<◌, ◌/◌, ◌%◌, if◌then◌else◌, not, slice_index, List, ℕ, nat_lt, count_by, length, Result, Ok, Err, ⊤}
 use Rattle.sets.specs.Sets.{member}
 use Rattle.rules.specs.Rules.{note_of, waits, broadcast, broadcasts}
 use Rattle.notes.specs.Area.{laid}
@@ -23,6 +23,10 @@ Tells reached ns from e = (j : ℕ) → j < 16 → member reached j ≡ waits ns
 
 abbrev pub AllTell : List ℕ → List ℕ → Sender → Type 0
 AllTell reached ns from = (e : ℕ) → e < 64 → Tells (slice_index reached e) ns from e
+
+-- sets of 16 desks each tell so of every desk
+abbrev pub ManyTell : List ℕ → List ℕ → Sender → ℕ → Type 0
+ManyTell reached ns from e = (j : ℕ) → j < 256 → member (slice_index reached (j / 16)) (j % 16) ≡ waits ns (note_of from.time_out from.source j e)
 
 -- whether the notes ns have room in the area
 abbrev pub room_for : List ℕ → List ℕ → Result ⊤ NoRoom

@@ -1,11 +1,11 @@
 //! Posting: a note is added at the end unless an equal note waits. The calls that answer `NoRoom` look whether the notes have room
 //! before they change anything.
-ghost use Rattle.std.specs.Prelude.{◌≡◌, ℕ, ◌<◌, ◌≤◌, ◌==◌, ◌||◌, if◌then◌else◌, nat_lt, OnErr, length, take, slice_index, Ok, Err};
+ghost use Rattle.std.specs.Prelude.{◌≡◌, false, ℕ, ◌<◌, ◌≤◌, ◌/◌, ◌%◌, ◌==◌, ◌||◌, if◌then◌else◌, nat_lt, OnErr, length, take, slice_index, Ok, Err};
 ghost use Rattle.sets.specs.Sets.{member};
 ghost use Rattle.rules.specs.declared.Refusal.TheVariants.{NoRoom};
 ghost use Rattle.rules.specs.Rules.{note_of, waits, post, post_all};
 ghost use Rattle.notes.specs.Area.{laid};
-ghost use Rattle.notes.specs.Posting.{Tells, AllTell, new_count, broadcast_of, broadcasts_of, room_for, count_or_no_room, laid_or_kept};
+ghost use Rattle.notes.specs.Posting.{Tells, AllTell, ManyTell, new_count, broadcast_of, broadcasts_of, room_for, count_or_no_room, laid_or_kept};
 
 use crate::{destination_number, destination_of, entry_of, note_of, waits};
 use rules::Refusal;
@@ -35,6 +35,18 @@ fn has_room(area: &[u64], would_wait: usize) -> Result<(), NoRoom>
     Ok(())
 }
 
+/// Adds a note, of which no equal note waits, at the end.
+fn add(area: &mut [u64], waiting: usize, note: u64) -> usize
+    requires waiting { waiting ≤ length area.old }
+    requires new { waits (take waiting area.old) note ≡ false }
+    requires room { length (post (take waiting area.old) note) ≤ length area.old }
+    ensures count { result ≡ length (post (take waiting area.old) note) }
+    ensures area { area.new ≡ laid waiting area.old (post (take waiting area.old) note) }
+{
+    area[waiting] = note;
+    waiting + 1
+}
+
 /// Adds the note at the end unless an equal note waits.
 pub fn post(area: &mut [u64], waiting: usize, note: u64) -> usize
     requires waiting { waiting ≤ length area.old }
@@ -45,8 +57,7 @@ pub fn post(area: &mut [u64], waiting: usize, note: u64) -> usize
     if waits(&area[..waiting], note) {
         return waiting;
     }
-    area[waiting] = note;
-    waiting + 1
+    add(area, waiting, note)
 }
 
 /// Posts one note, if it has room.
@@ -57,12 +68,22 @@ pub fn post_one(area: &mut [u64], waiting: usize, note: u64) -> Result<usize, No
     ensures area { area.new ≡ laid_or_kept waiting area.old (post (take waiting area.old) note) }
     ensures kept { OnErr result (area.new ≡ area.old) }
 {
-    if waiting < area.len() || waits(&area[..waiting], note) {
-        return Ok(post(area, waiting, note));
+    if waits(&area[..waiting], note) {
+        return Ok(waiting);
+    }
+    if waiting < area.len() {
+        return Ok(add(area, waiting, note));
     }
     Err(NoRoom {
         would_wait: waiting + 1,
     })
+}
+
+/// Whether the desk is in its set, where sets of 16 desks each tell of all desks.
+fn many_have(reached: &[DeskSet; 16], desk: DeskNo) -> bool
+    ensures { result ≡ member (slice_index reached.now (desk / 16)) (desk % 16) }
+{
+    reached[desk.0 as usize / 16].has(DeskNo(desk.0 % 16))
 }
 
 /// What the notes of a broadcast have in common: from which desk they are, that they go to desks 0 to `desks` - 1, in that order, and
@@ -105,35 +126,86 @@ impl Sender {
         reached
     }
 
-    /// Whether an equal note waits. Below desk 16 the set tells; from there on, of which no set of desks tells, each note is looked at.
-    fn has_reached(&self, notes: &[u64], reached: DeskSet, desk: DeskNo, entry: EntryNo) -> bool
-        requires { Tells reached notes.now self.now entry }
-        ensures { result ≡ waits notes.now (note_of self.now.time_out self.now.source desk entry) }
+    /// Puts the desk to which this note goes into its set, if the note is one of the broadcast.
+    fn add_to_many(&self, reached: &mut [DeskSet; 16], note: u64, entry: EntryNo)
+        ensures { (j : ℕ) → j < 256 →
+            member (slice_index reached.new (j / 16)) (j % 16) ≡ (member (slice_index reached.old (j / 16)) (j % 16) || note == note_of self.now.time_out self.now.source j entry) }
     {
-        if desk.0 < 16 {
-            reached.has(desk)
-        } else {
-            waits(notes, self.note_to(desk, entry))
+        let desk = destination_of(note);
+        if note == self.note_to(desk, entry) {
+            let k = desk.0 as usize / 16;
+            reached[k] = reached[k].with(DeskNo(desk.0 % 16));
         }
     }
 
-    /// How many notes of the broadcast do not wait, where the set tells for desks below 16.
+    /// All desks to which an equal note waits, found by one scan, in sets of 16 desks each.
+    fn many_reached(&self, notes: &[u64], entry: EntryNo) -> [DeskSet; 16]
+        ensures { ManyTell result notes.now self.now entry }
+    {
+        let mut reached = [DeskSet::empty(); 16];
+        for note in notes {
+            self.add_to_many(&mut reached, *note, entry);
+        }
+        reached
+    }
+
+    /// How many notes of the broadcast do not wait, for any number of desks.
+    // Not inlined, as `post_missing_of_many`: where there are at most 16 desks, one set tells of all, and no room for 16 sets is taken.
+    #[inline(never)]
+    #[tactic(auto, using(crate::proofs::PostingLaws::new_none, crate::proofs::PostingLaws::new_more))]
+    fn missing_of_many(&self, notes: &[u64], entry: EntryNo) -> usize
+        ensures { result ≡ new_count notes.now (broadcast_of self.now entry) }
+    {
+        let reached = self.many_reached(notes, entry);
+        let mut count = 0;
+        for number in 0..self.desks {
+            if !many_have(&reached, DeskNo(number)) {
+                count += 1;
+            }
+        }
+        count
+    }
+
+    /// Adds the notes of the broadcast that do not wait, for any number of desks.
+    #[inline(never)]
+    fn post_missing_of_many(&self, area: &mut [u64], waiting: usize, entry: EntryNo) -> usize
+        requires waiting { waiting ≤ length area.old }
+        requires room { length (post_all (take waiting area.old) (broadcast_of self.now entry)) ≤ length area.old }
+        ensures count { result ≡ length (post_all (take waiting area.old) (broadcast_of self.now entry)) }
+        ensures area { area.new ≡ laid waiting area.old (post_all (take waiting area.old) (broadcast_of self.now entry)) }
+    {
+        let reached = self.many_reached(&area[..waiting], entry);
+        let mut count = waiting;
+        for number in 0..self.desks {
+            let desk = DeskNo(number);
+            if !many_have(&reached, desk) {
+                area[count] = self.note_to(desk, entry);
+                count += 1;
+            }
+        }
+        count
+    }
+
+    /// How many notes of the broadcast do not wait, where the set tells for desks below 16. For more, all notes are looked through once more.
     #[tactic(auto, using(crate::proofs::PostingLaws::new_none, crate::proofs::PostingLaws::new_more))]
     fn missing(&self, notes: &[u64], reached: DeskSet, entry: EntryNo) -> usize
         requires { Tells reached notes.now self.now entry }
         ensures { result ≡ new_count notes.now (broadcast_of self.now entry) }
     {
+        if self.desks > 16 {
+            return self.missing_of_many(notes, entry);
+        }
         // Counted by hand: `filter` and `count` over the range were tried, and the proof did not close.
         let mut new = 0;
         for j in 0..self.desks {
-            if !self.has_reached(notes, reached, DeskNo(j), entry) {
+            if !reached.has(DeskNo(j)) {
                 new += 1;
             }
         }
         new
     }
 
-    /// Adds the notes of the broadcast that do not wait, where the set tells for desks below 16.
+    /// Adds the notes of the broadcast that do not wait, as `missing` counts them.
     fn post_missing(
         &self,
         area: &mut [u64],
@@ -147,11 +219,14 @@ impl Sender {
         ensures count { result ≡ length (post_all (take waiting area.old) (broadcast_of self.now entry)) }
         ensures area { area.new ≡ laid waiting area.old (post_all (take waiting area.old) (broadcast_of self.now entry)) }
     {
+        if self.desks > 16 {
+            return self.post_missing_of_many(area, waiting, entry);
+        }
         // Counted by hand, as the count is the place that is written to.
         let mut count = waiting;
         for desk in 0..self.desks {
             let desk = DeskNo(desk);
-            if !self.has_reached(&area[..waiting], reached, desk, entry) {
+            if !reached.has(desk) {
                 area[count] = self.note_to(desk, entry);
                 count += 1;
             }
