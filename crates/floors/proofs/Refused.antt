@@ -1,5 +1,5 @@
 -- What a refused action leaves of a floor and its area: both as they were. Assumes nothing.
-use Rattle.std.proofs.Common.{◌≡◌, ℕ, ◌≤◌, Bool, List, [], ◌∷◌, length, Result, Ok, Err, nat_eq, refl, ap, ◌∙◌, arith}
+use Rattle.std.proofs.Common.{◌≡◌, ℕ, ◌≤◌, Bool, true, List, [], ◌∷◌, length, Result, Ok, Err, nat_eq, subst, refl, sym, ap, ◌∙◌, arith}
 use Rattle.std.specs.Prelude.{⊤}
 use Rattle.std.proofs.lemmas.Grind.{common_steps}
 use borrow.Author.Tests.{eqb-true, not-false}
@@ -29,6 +29,23 @@ told_err new (Err other) refusal e = cc
 pub once_ok : {A : Type 0} (a : Result ⊤ Refusal) (x : Result A Refusal) (m : A) → once a x ≡ Ok m → (a ≡ Ok tt) × (x ≡ Ok m)
 once_ok (Ok _) x m e = (refl, e)
 once_ok (Err refusal) x m e = (cc, cc)
+
+told_ok : (new : Bool) (a : Result ⊤ Refusal) (t : Told) → told new a ≡ Ok t → a ≡ Ok tt
+told_ok new (Ok _) t e = refl
+told_ok new (Err refusal) t e = cc
+
+-- what was carried out was carried out on a floor in shape, and by the rules
+pub acted_done : (fl : Floor) (area : List ℕ) (x : Asked) (t : Told) → acted (state_of fl area) (once (handed_in fl area) x) ≡ Ok t → (m : Action) → x ≡ Ok m
+    → (in_shape fl area ≡ true) × (answer (state_of fl area) m ≡ Ok tt)
+acted_done fl area x t done m is = go (once (handed_in fl area) x) refl done
+  where
+    go : (y : Asked) → once (handed_in fl area) x ≡ y → acted (state_of fl area) y ≡ Ok t → (in_shape fl area ≡ true) × (answer (state_of fl area) m ≡ Ok tt)
+    go (Err refusal) e done = (cc, cc)
+    go (Ok n) e done =
+        let ok = once_ok (handed_in fl area) x n e in
+        let passed = ok_passed (wrong_area area ∷ out_of_shape fl area ∷ []) ok.0 in
+        let same : n ≡ m = (let p : ◌≡◌ {A = Asked} (Ok n) (Ok m) = sym ok.1 ∙ is in cc) in
+        (not-false (in_shape fl area) passed.1.0, subst (λ (q : Action). answer (state_of fl area) q ≡ Ok tt) same (told_ok _ (answer (state_of fl area) n) t done))
 
 -- a refused step
 pub step_stays : (fl : Floor) (area : List ℕ) → handed_in fl area ≡ Ok tt → (m : Action) (refusal : Refusal) → Err refusal ≡ step_answer (state_of fl area) m

@@ -1,12 +1,29 @@
 //! The public calls, on whatever is handed in.
-ghost use Rattle.std.specs.Prelude.{◌≡◌, ◌+◌, IsTrue, OnErr, length, is_ok};
+ghost use Rattle.std.specs.Prelude.{◌≡◌, ◌+◌, true, Ok, IsTrue, OnErr, length, is_ok};
 ghost use Rattle.rules.specs.declared.TheConstants.Settings.{MOST_NOTES};
+ghost use Rattle.rules.specs.Rules.{within_limits};
 ghost use Rattle.rules.specs.NewSources.{desk_sizes, sum};
 ghost use Rattle.floors.specs.Floors.{state_of, in_shape, no_floor, handed_in, asked, acted, added, floor_after, area_after, opening, opened, floor_opened, area_opened};
 
 use crate::{Floor, Told};
 use records::Record;
 use rules::{Refusal, Settings};
+
+/// The settings that an opening opens with.
+fn opening(area: &[u64], fields: Record) -> Result<Settings, Refusal>
+    ensures is { result ≡ opening area.now fields }
+    ensures room { IsTrue (is_ok result) → length area.now ≡ MOST_NOTES }
+    ensures within { (k : Settings) → result ≡ Ok k → within_limits k ≡ true }
+{
+    if area.len() != Settings::MOST_NOTES {
+        return Err(Refusal::AreaLength);
+    }
+    let settings = fields.opening()?;
+    if !settings.within_limits() {
+        return Err(Refusal::OutsideSettings);
+    }
+    Ok(settings)
+}
 
 impl Floor {
     /// Opens a fresh floor in the place of this one, and clears the area. Where the opening is refused, the floor of zeros is left.
@@ -18,17 +35,17 @@ impl Floor {
         ensures shape { IsTrue (is_ok result) → IsTrue (in_shape self.new area.new) }
         ensures none_new { IsTrue (is_ok result) → sum desk_sizes self.new.desks ≡ 0 }
     {
-        *self = Floor::none();
-        if area.len() != Settings::MOST_NOTES {
-            return Err(Refusal::AreaLength);
+        match opening(area, fields) {
+            Ok(settings) => {
+                notes::clear(area);
+                *self = Floor::fresh(settings);
+                Ok(())
+            }
+            Err(refusal) => {
+                *self = Floor::none();
+                Err(refusal)
+            }
         }
-        let settings = fields.opening()?;
-        if !settings.within_limits() {
-            return Err(Refusal::OutsideSettings);
-        }
-        notes::clear(area);
-        *self = Floor::fresh(settings);
-        Ok(())
     }
 
     /// Looks at a floor and an area that were handed in, before anything is done to them.

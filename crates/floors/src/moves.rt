@@ -86,8 +86,12 @@ impl Floor {
         if desk.0 >= self.settings.desks {
             return Err(Refusal::NoDesk);
         }
-        let i = desk.0 as usize;
-        self.desks[i] = self.desks[i].accepted(self.settings, desk);
+        let settings = self.settings;
+        let before = &mut self.desks[desk.0 as usize];
+        let after = before.accepted(settings, desk);
+        // Only what accept changes is put back: the sets received alone are 128 bytes.
+        before.listed = after.listed;
+        before.accept = after.accept;
         Ok(())
     }
 

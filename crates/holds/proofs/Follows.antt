@@ -15,12 +15,13 @@ use Rattle.rules.specs.declared.Action.TheVariants.{Announce}
 use Rattle.rules.specs.Rules.{State, within_limits, fresh, fresh_desk, answer, next}
 use Rattle.rules.specs.Running.{Asked}
 use Rattle.floors.proofs.Shapes.{opened_in_shape}
+use Rattle.rules.proofs.Effects.{next_kept}
 use Rattle.agreement.specs.Wait.{announces, floor_after}
 use Rattle.agreement.proofs.AfterLaws.{settings_after}
 use Rattle.floors.specs.Floors.{state_of, floor_of}
 use Rattle.holds.specs.declared.Hold.{Hold}
 use Rattle.holds.specs.Stickers.{fresh_sticker, begun, noted_fits}
-use Rattle.holds.specs.Holds.{sticker_at, noted_at, new_hold, announcing, printed, after, taken}
+use Rattle.holds.specs.Holds.{sticker_at, begun_at, noted_at, new_hold, announcing, printed, after, taken}
 use Rattle.holds.specs.Steps.{asks_for}
 use Rattle.holds.proofs.ShapeKept as kept
 use Rattle.holds.proofs.Noting.{one_more, Noting, noting_none, noting_other, noting_announced}
@@ -116,29 +117,33 @@ opened_follows k within few =
       noting = λ e l. rw (get_or-replicate 64 e fresh_sticker fresh_sticker l) (noting_none k few e);
     }
 
--- a noted clock stays
-module _ (k : Settings) (few : k.desks ≤ 16) (actions : List Action) (h : Hold) (area : List ℕ) (g : Follows k few actions h area) (e T : ℕ) (low : e < 64) where
-  pub taken_noted : (x : Asked) → noted_at h e ≡ Some T → noted_at (taken (record { hold = h; area = area }) x).hold e ≡ Some T
-  taken_noted x is =
-      subst (λ (y : Asked). noted_at (after h area y).hold e ≡ Some T) (sym (asked_is h area g.fit x)) (go x)
+-- a wait that has begun stays begun, and its noted clock stays
+module _ (k : Settings) (few : k.desks ≤ 16) (actions : List Action) (h : Hold) (area : List ℕ) (g : Follows k few actions h area) (e : ℕ) (low : e < 64) where
+  pub noted_begun : (T : ℕ) → noted_at h e ≡ Some T → begun_at h e ≡ true
+  noted_begun T is =
+      let fits : noted_fits (begun_at h e) h.floor.clock (Some T) ≡ true = subst (λ (o : Option ℕ). noted_fits (begun_at h e) h.floor.clock o ≡ true) is (noted_each h g.fit.noted e low).noted in
+      and_left (begun_at h e) (nat_le T h.floor.clock) fits
+
+  pub taken_noted : (x : Asked) → begun_at h e ≡ true → let h' = (taken (record { hold = h; area = area }) x).hold in (begun_at h' e ≡ true) × (noted_at h' e ≡ noted_at h e)
+  taken_noted x was =
+      subst (λ (y : Asked). Stays (after h area y).hold) (sym (asked_is h area g.fit x)) (go x)
     where
-      begun_there : begun h.floor.settings.faults (sticker_at h.stickers e).announced ≡ true
-      begun_there =
-          let fits : noted_fits (begun h.floor.settings.faults (sticker_at h.stickers e).announced) h.floor.clock (Some T) ≡ true = subst (λ (o : Option ℕ). noted_fits (begun h.floor.settings.faults (sticker_at h.stickers e).announced) h.floor.clock o ≡ true) is (noted_each h g.fit.noted e low).noted in
-          and_left (begun h.floor.settings.faults (sticker_at h.stickers e).announced) (nat_le T h.floor.clock) fits
+      Stays : Hold → Type 0
+      Stays q = (begun_at q e ≡ true) × (noted_at q e ≡ noted_at h e)
 
-      told : (d c : ℕ) (done : answer (state_of h.floor area) (Announce d c) ≡ Ok tt) → (sticker_at (announcing h d c) e).noted ≡ Some T
+      same : (m : Action) → (next (state_of h.floor area) m).settings.faults ≡ h.floor.settings.faults
+      same m = ap (λ (q : Settings). q.faults) (next_kept (state_of h.floor area) m).settings
+
+      told : (d c : ℕ) (done : answer (state_of h.floor area) (Announce d c) ≡ Ok tt) → Stays (with h area g.fit (Announce d c) (announcing h d c))
       told d c done =
-          by_entry h area g.fit d c done (λ q st. noted_at h q ≡ Some T → begun h.floor.settings.faults (sticker_at h.stickers q).announced ≡ true → st.noted ≡ Some T)
-          (λ was b. kept.noted_again h.floor.settings.faults (sticker_at h.stickers c).announced (insert_below 16 (sticker_at h.stickers c).announced d) h.floor.clock (noted_at h c) b ∙ was)
-          (λ q l other was b. was) e low is begun_there
+          rw (same (Announce d c))
+          (by_entry h area g.fit d c done (λ q st. begun_at h q ≡ true → (begun h.floor.settings.faults st.announced ≡ true) × (st.noted ≡ noted_at h q))
+          (λ b. (
+            rw (insert_below_low 16 (sticker_at h.stickers c).announced d (announcer_below h area g.fit d c done).1) (kept.begun_more h.floor.settings.faults (sticker_at h.stickers c).announced d b),
+            kept.noted_again h.floor.settings.faults (sticker_at h.stickers c).announced (insert_below 16 (sticker_at h.stickers c).announced d) h.floor.clock (noted_at h c) b,
+          ))
+          (λ q l other b. (b, refl)) e low was)
 
-      go : (y : Asked) → noted_at (after h area y).hold e ≡ Some T
-      go (Ok m) = after_either h area g.fit m (λ n q. noted_at q e ≡ Some T) told (λ n silent. is)
-      go (Err refusal) = is
-
-  pub printed_noted : (c : ℕ) → noted_at h e ≡ Some T → noted_at (printed h area c) e ≡ Some T
-  printed_noted c is =
-      printed_either h area c (λ q _. noted_at q e ≡ Some T) is
-      (λ below over new. let there : c < length h.stickers = rw g.fit.stickers below in
-      marked_either h.stickers c there (λ q st. noted_at h q ≡ Some T → st.noted ≡ Some T) (λ was. was) e (λ was. was) is)
+      go : (y : Asked) → Stays (after h area y).hold
+      go (Ok m) = after_either h area g.fit m (λ n q. Stays q) told (λ n silent. (rw (same n) was, refl))
+      go (Err refusal) = (was, refl)

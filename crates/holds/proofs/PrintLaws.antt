@@ -1,10 +1,10 @@
 -- Whether a sticker may be printed, by its checks, and the ways of a print. Assumes nothing.
 use Rattle.std.proofs.Common.{◌≡◌, ◌∙◌, ℕ, ◌≤◌, ◌<◌, Bool, true, false, nat_eq, List, get_or, set, length, Ok, Err, is_ok, subst, refl, sym, ap, arith, length-set, get_or-set_same, get_or-set_other, if◌then◌else◌}
-use Rattle.std.proofs.lemmas.List.{get_or_default}
+use Rattle.std.proofs.lemmas.List.{get_or_default, set_past}
 use mathlib.Core.Logic.{inr, ⊎_elim}
 use native.Mathlib.Nat.{lt_of_lt_of_le}
 use borrow.Author.Tests.{eqb-true, eqb-false, not-false, lt-ltb, le-ltb}
-use Rattle.sets.proofs.Tests.{decided, cond_both}
+use Rattle.sets.proofs.Tests.{decided, cond_both, le_or_lt}
 use Rattle.rules.specs.declared.Refusal.TheVariants.{NoEntry, WaitNotOver, AlreadyPrinted}
 use Rattle.rules.specs.declared.TheConstants.Settings.{MOST_NOTES}
 use Rattle.rules.proofs.CheckLaws.{Passed, ok_passed, true_ok, below_passed}
@@ -13,8 +13,8 @@ use Rattle.records.specs.Records.{action_of}
 use Rattle.floors.specs.Floors.{in_shape}
 use Rattle.holds.specs.declared.Sticker.{Sticker}
 use Rattle.holds.specs.declared.Hold.{Hold}
-use Rattle.holds.specs.Stickers.{fresh_sticker, wait_over}
-use Rattle.holds.specs.Holds.{sticker_at, is_printed, noted_in_shape, print_checks, may_print, with_printed, printed, Standing, HandedIn}
+use Rattle.holds.specs.Stickers.{fresh_sticker, begun, wait_over}
+use Rattle.holds.specs.Holds.{sticker_at, begun_at, noted_at, is_printed, noted_in_shape, print_checks, may_print, with_printed, printed, Standing, HandedIn}
 use Rattle.holds.specs.Steps.{Step, action, print, stepped}
 use Rattle.holds.proofs.StickerLaws.{StickerShape}
 use Rattle.holds.proofs.ShapeKept.{printed_shape}
@@ -65,6 +65,16 @@ module _ (h : Hold) (area : List ℕ) (e : ℕ) where
   printed_either Q same prints =
       cond_both (λ (o : Hold). Q o area) (is_ok (may_print h area e)) (with_printed h e) h
       (λ ok. let p = may_parts (true_ok (may_print h area e) ok) in prints p.below p.over p.new) (λ refused. same)
+
+  -- a print notes nothing
+  pub printed_noted : (c : ℕ) → (begun_at (printed h area e) c ≡ begun_at h c) × (noted_at (printed h area e) c ≡ noted_at h c)
+  printed_noted c =
+      printed_either (λ q _. (begun_at q c ≡ begun_at h c) × (noted_at q c ≡ noted_at h c)) (refl, refl)
+      (λ below over new.
+      ⊎_elim
+      (λ past. rw (set_past h.stickers e (marked (sticker_at h.stickers e)) past) (refl, refl))
+      (λ there. marked_either h.stickers e there (λ q st. (begun h.floor.settings.faults st.announced ≡ begun_at h q) × (st.noted ≡ noted_at h q)) (refl, refl) c (refl, refl))
+      (le_or_lt (length h.stickers) e))
 
   pub printed_fit : Fit h area → e < 64 → wait_over_at h e ≡ true → Fit (with_printed h e) area
   printed_fit fit below over =

@@ -1,6 +1,6 @@
 -- THE HOLD ON THE PRINTERS: what follows the rules has the promise, and so every hold has it that actions and prints lead to from an
 -- opening, refused ones among them. Assumes nothing.
-use Rattle.std.proofs.Common.{◌≡◌, ℕ, ◌+◌, ◌≤◌, ◌<◌, true, false, nat_le, nat_lt, List, [], ◌∷◌, ◌++◌, Option, Some, None, Ok, Err, subst, refl, sym, ap, arith}
+use Rattle.std.proofs.Common.{◌≡◌, ◌∙◌, ℕ, ◌+◌, ◌≤◌, ◌<◌, true, false, nat_le, nat_lt, List, [], ◌∷◌, ◌++◌, Option, Some, None, Ok, Err, subst, refl, sym, ap, arith}
 use mathlib.Core.List.{append_assoc, append-nil}
 use mathlib.Core.Logic.{⊎_elim}
 use native.Mathlib.Nat.{lt_of_lt_of_le}
@@ -24,9 +24,9 @@ use Rattle.holds.specs.Holds.{sticker_at, begun_at, noted_at, Standing, taken, p
 use Rattle.holds.specs.Steps.{Step, action, print, left_by, opened_hold, asks_for, actions_of}
 use Rattle.holds.specs.Promise.{WaitIsOver, Promised}
 use Rattle.holds.proofs.HoldLaws.{asked_is, noted_each}
-use Rattle.holds.proofs.PrintLaws.{wait_over_at, may_parts, may_5, may_17, may_18}
+use Rattle.holds.proofs.PrintLaws.{printed_noted, wait_over_at, may_parts, may_5, may_17, may_18}
 use Rattle.holds.proofs.Noting.{announced_begun}
-use Rattle.holds.proofs.Follows.{Follows, opened_with, taken_follows, printed_follows, opened_follows, taken_noted, printed_noted}
+use Rattle.holds.proofs.Follows.{Follows, opened_with, taken_follows, printed_follows, opened_follows, noted_begun, taken_noted}
 
 module _ (k : Settings) (within : within_limits k ≡ true) where
   abbrev pub few : k.desks ≤ 16
@@ -125,10 +125,10 @@ module _ (k : Settings) (within : within_limits k ≡ true) where
   noted_on actions o g e T low is [] = is
   noted_on actions o g e T low is (action r ∷ steps) =
       noted_on (actions ++ asks_for (action_of r)) (taken o (action_of r)) (taken_follows k few actions o.hold o.area g (action_of r)) e T low
-      (taken_noted k few actions o.hold o.area g e T low (action_of r) is) steps
+      ((taken_noted k few actions o.hold o.area g e low (action_of r) (noted_begun k few actions o.hold o.area g e low T is)).1 ∙ is) steps
   noted_on actions o g e T low is (print c ∷ steps) =
       noted_on actions (record { hold = printed o.hold o.area c; area = o.area }) (printed_follows k few actions o.hold o.area g c) e T low
-      (printed_noted k few actions o.hold o.area g e T low c is) steps
+      ((printed_noted o.hold o.area c e).1 ∙ is) steps
 
 -- ---- from an opening
 

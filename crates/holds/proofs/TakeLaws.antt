@@ -1,52 +1,37 @@
 -- Record after record of a sequence on a hold, as the loop goes. Assumes nothing.
-use Rattle.std.proofs.Common.{◌≡◌, ◌∙◌, ℕ, suc, ◌+◌, ◌-◌, ◌/◌, ◌≤◌, ◌<◌, Bool, false, List, [], ◌∷◌, length, drop, nat_eq, Some, None, Result, Ok, Err, OnErr, is_ok, subst, refl, sym, ap, arith, add-one, if◌then◌else◌}
+use Rattle.std.proofs.Common.{◌≡◌, ◌∙◌, ℕ, suc, ◌+◌, ◌-◌, ◌/◌, ◌≤◌, ◌<◌, Bool, false, List, ◌∷◌, length, drop, nat_eq, Some, None, Result, Ok, Err, OnErr, is_ok, refl, sym, ap, arith, add-one, if◌then◌else◌}
 use Rattle.std.proofs.lemmas.Grind.{common_steps}
-use Rattle.std.specs.Prelude.{⊤}
 use mathlib.Core.Logic.{⊎_elim}
 use native.Mathlib.Nat.{lt_of_lt_of_le}
-use borrow.Author.Tests.{eq-eqb, not-false}
+use borrow.Author.Tests.{eq-eqb}
 use Rattle.sets.proofs.Tests.{decided, cond_true}
 use Rattle.rules.specs.declared.Settings.{Settings}
-use Rattle.rules.specs.declared.Action.{Action}
 use Rattle.rules.specs.declared.Action.TheVariants.{Announce}
 use Rattle.rules.specs.declared.Refusal.{Refusal}
 use Rattle.rules.specs.declared.Refusal.TheVariants.{Form, Length}
-use Rattle.rules.specs.Rules.{answer}
 use Rattle.rules.specs.Running.{Asked}
-use Rattle.rules.proofs.CheckLaws.{carried_out_passed, announce_below, ok_passed}
+use Rattle.rules.proofs.CheckLaws.{carried_out_passed, announce_below}
 use Rattle.records.specs.declared.Record.{Record}
 use Rattle.records.specs.Records as records
 use Rattle.records.specs.Records.{well_formed, fields_of, read_of, action_of, asked_in, record_at}
 use Rattle.floors.specs.declared.Floor.{Floor}
 use Rattle.floors.specs.declared.Told.{Told}
-use Rattle.floors.specs.Floors.{state_of, no_floor, in_shape, wrong_area, out_of_shape, handed_in, once, told, acted, floor_after, area_after, opened, floor_opened, area_opened}
+use Rattle.floors.specs.Floors.{state_of, no_floor, handed_in, once, acted, floor_after, area_after, opened, floor_opened, area_opened}
 use Rattle.floors.proofs.Shapes.{in_shape_ready}
 use Rattle.runs.specs.Runs.{asked_from, all_asked, whole_opening}
 use Rattle.runs.proofs.FloorLaws.{opened_ok, opened_err}
 use Rattle.holds.specs.declared.Hold.{Hold}
 use Rattle.holds.specs.Holds.{Standing, new_hold, asked_of, stickers_after, answer_to, taken}
 use Rattle.holds.specs.Sequences.{Went, begun, carried_out, ended, went_on, whole_begun, whole_of}
-use Rattle.floors.proofs.Refused.{once_ok}
+use Rattle.floors.proofs.Refused.{acted_done}
 use Rattle.holds.proofs.ActionLaws.{refused_same}
 
 -- ---- an announcement that was carried out is of one of 64 entries
 
-told_ok : (new : Bool) (a : Result ⊤ Refusal) (t : Told) → told new a ≡ Ok t → a ≡ Ok tt
-told_ok new (Ok _) t e = refl
-told_ok new (Err refusal) t e = cc
-
 pub announced_entry : (fl : Floor) (area : List ℕ) (x : Asked) (t : Told) (d c : ℕ) → acted (state_of fl area) (once (handed_in fl area) x) ≡ Ok t → x ≡ Ok (Announce d c) → c < 64
-announced_entry fl area x t d c done is = go (once (handed_in fl area) x) refl done
-  where
-    go : (y : Asked) → once (handed_in fl area) x ≡ y → acted (state_of fl area) y ≡ Ok t → c < 64
-    go (Err refusal) e done = cc
-    go (Ok m) e done =
-        let ok = once_ok (handed_in fl area) x m e in
-        let passed = ok_passed (wrong_area area ∷ out_of_shape fl area ∷ []) ok.0 in
-        let few = (in_shape_ready fl area (not-false (in_shape fl area) passed.1.0)).entries in
-        let same : m ≡ Announce d c = (let p : ◌≡◌ {A = Asked} (Ok m) (Ok (Announce d c)) = sym ok.1 ∙ is in cc) in
-        let carried : answer (state_of fl area) (Announce d c) ≡ Ok tt = subst (λ (n : Action). answer (state_of fl area) n ≡ Ok tt) same (told_ok _ (answer (state_of fl area) m) t done) in
-        lt_of_lt_of_le (announce_below (state_of fl area) d c (carried_out_passed (state_of fl area) (Announce d c) carried)).1 few
+announced_entry fl area x t d c done is =
+    let (shaped, carried) = acted_done fl area x t done (Announce d c) is in
+    lt_of_lt_of_le (announce_below (state_of fl area) d c (carried_out_passed (state_of fl area) (Announce d c) carried)).1 (in_shape_ready fl area shaped).entries
 
 -- what holds in any case holds where there is a refusal
 pub on_err : (P : Type 0) (r : Result Told Refusal) → P → OnErr r P

@@ -1,6 +1,7 @@
 -- The wait, read at the calls: what each call leaves holds the state after the actions that were asked of it. Assumes nothing.
 use Rattle.std.proofs.Common.{◌≡◌, ℕ, ◌/◌, min, List, [], ◌∷◌, ◌++◌, length, drop, Result, Ok, Err, true, refl, sym, ap, ◌∙◌, arith, append-nil}
 use Rattle.std.specs.Prelude.{⊤}
+use Rattle.std.proofs.lemmas.List.{length-replicate}
 use mathlib.Core.Path.{subst}
 use borrow.Author.Tests.{not-false}
 use Rattle.rules.specs.declared.Settings.{Settings}
@@ -15,11 +16,13 @@ use Rattle.agreement.proofs.WaitIsEnough.{wait_is_enough}
 use Rattle.agreement.proofs.AfterLaws.{after_both, settings_after}
 use Rattle.records.specs.declared.Record.{Record}
 use Rattle.floors.specs.declared.Floor.{Floor}
-use Rattle.floors.specs.Floors.{once, within, opening, asked, floor_after, area_after, floor_opened, area_opened}
+use Rattle.floors.proofs.Shapes.{opened_in_shape}
+use Rattle.floors.specs.Floors.{handed_in, once, within, opening, asked, floor_after, area_after, floor_opened, area_opened}
 use Rattle.records.specs.Records.{opening_of}
 use Rattle.runs.specs.Runs.{Went, state_in, begun, asked_from, all_asked, went_on, run_of, run_answer, first_of_whole, opening_by, whole_opening, whole_of}
 use Rattle.runs.specs.Calls.{Call, one, many, Standing, standing, leaves, actions, actions_of, first_actions, left_by, all_actions}
-use Rattle.runs.specs.Theorems.{Waits, state_at, by_rules}
+use Rattle.runs.specs.Theorems.{Waits, state_at, by_rules, IsRun}
+use Rattle.runs.proofs.FloorLaws.{handed_in_shape, went_shaped}
 use Rattle.runs.proofs.RunLaws.{state_after, run_is_rules, run_leads}
 
 -- ---- one call
@@ -71,6 +74,15 @@ limits_by : (area : List ℕ) (o : Result Record Refusal) (k : Settings) → ope
 limits_by area (Ok r) k e = opening_limits area r k e
 limits_by area (Err refusal) k e = cc
 
+-- ---- a run
+
+pub run_of_is_rules : (fl : Floor) (area bytes : List ℕ) (most : ℕ) → run_answer fl area bytes ≡ Ok tt
+    → IsRun (run_of fl area bytes most) (run most (state_at (record { floor = fl; area = area })) (all_asked bytes))
+run_of_is_rules fl area bytes most e =
+    let n : ℕ = length bytes / 16 in
+    let shaped = went_shaped (asked_from bytes 0 (min most n)) (begun fl area) (handed_in_shape fl area (once_first (handed_in fl area) _ tt e)) in
+    rw e (record { run = run_is_rules (begun fl area) refl refl refl bytes most n; room = shaped.0; shape = shaped.1 })
+
 -- ---- the wait
 
 -- where actions from the fresh floor led to a state
@@ -112,9 +124,11 @@ module _ (area bytes : List ℕ) where
   pub wait_of_whole : Waits w.floor.settings moves (state_in w)
   wait_of_whole = rw append-nil at (wait_after_whole [])
 
-  pub whole_is_rules : (k : Settings) → whole_opening area bytes ≡ Ok k → by_rules w ≡ run (length (drop 16 bytes) / 16) (fresh k) (all_asked (drop 16 bytes))
+  pub whole_is_rules : (k : Settings) → whole_opening area bytes ≡ Ok k → IsRun w (run (length (drop 16 bytes) / 16) (fresh k) (all_asked (drop 16 bytes)))
   whole_is_rules k e =
       let n : ℕ = length (drop 16 bytes) / 16 in
       let all : min n n ≡ n = omega arith in
       let st : Went = begun (floor_opened (Ok k)) (area_opened area (Ok k)) in
-      rw e (subst (λ (q : ℕ). by_rules (went_on st (asked_from (drop 16 bytes) 0 q)) ≡ run n (fresh k) (all_asked (drop 16 bytes))) all (run_is_rules st refl refl refl (drop 16 bytes) n n))
+      let same = subst (λ (q : ℕ). by_rules (went_on st (asked_from (drop 16 bytes) 0 q)) ≡ run n (fresh k) (all_asked (drop 16 bytes))) all (run_is_rules st refl refl refl (drop 16 bytes) n n) in
+      let shaped = went_shaped (all_asked (drop 16 bytes)) st (length-replicate {A = ℕ} 2048 0, opened_in_shape k st.area (limits_by area (first_of_whole area bytes) k e)) in
+      rw e (record { run = same; room = shaped.0; shape = shaped.1 })

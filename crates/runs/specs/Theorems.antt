@@ -1,6 +1,7 @@
 -- What is proved of runs, each under the name of the function in src/theorems.rt that says it. Assumes nothing.
-use Rattle.std.specs.Prelude.{◌≡◌, ℕ, ◌<◌, ◌/◌, ◌++◌, List, length, drop, Option, Some, None, Result, Ok, Err, ⊤}
+use Rattle.std.specs.Prelude.{◌≡◌, ℕ, ◌<◌, ◌/◌, ◌++◌, IsTrue, List, length, drop, Option, Some, None, Result, Ok, Err, ⊤}
 use Rattle.rules.specs.declared.Settings.{Settings}
+use Rattle.rules.specs.declared.TheConstants.Settings.{MOST_NOTES}
 use Rattle.rules.specs.declared.Action.{Action}
 use Rattle.rules.specs.declared.Refusal.{Refusal}
 use Rattle.rules.specs.Rules.{State, fresh, next}
@@ -9,7 +10,7 @@ use Rattle.agreement.specs.View.{after}
 use Rattle.agreement.specs.Wait.{AnnouncedBy, LaterThanWait, OnEveryGoodList}
 use Rattle.records.specs.declared.Record.{Record}
 use Rattle.floors.specs.declared.Floor.{Floor}
-use Rattle.floors.specs.Floors.{state_of, opening, floor_opened, area_opened}
+use Rattle.floors.specs.Floors.{state_of, in_shape, opening, floor_opened, area_opened}
 use Rattle.runs.specs.Runs.{Went, state_in, all_asked, run_answer, run_of, whole_opening, whole_of}
 use Rattle.runs.specs.Calls.{Call, Standing, standing, first_actions, left_by, all_actions}
 
@@ -22,16 +23,22 @@ given (Some refusal) = Err refusal
 abbrev pub by_rules : Went → Run
 by_rules w = record { count = w.ran.count; total = w.ran.new_sources; answer = given w.ran.refusal; state = state_in w }
 
+-- it is the rules' run r, and leaves a floor and an area in shape
+pub record IsRun (w : Went) (r : Run) : Type 0 where
+  pub run : by_rules w ≡ r
+  pub room : length w.area ≡ MOST_NOTES
+  pub shape : IsTrue (in_shape w.floor w.area)
+
 abbrev pub RunIsTheRulesRun : Type 0
 RunIsTheRulesRun =
     (fl : Floor) (area bytes : List ℕ) (most : ℕ) → run_answer fl area bytes ≡ Ok tt
-    → by_rules (run_of fl area bytes most) ≡ run most (state_of fl area) (all_asked bytes)
+    → IsRun (run_of fl area bytes most) (run most (state_of fl area) (all_asked bytes))
 
 -- what is left of a whole sequence after its opening is a run from the fresh floor; no most-number stops it
 abbrev pub WholeIsTheRulesRun : Type 0
 WholeIsTheRulesRun =
     (area bytes : List ℕ) (k : Settings) → whole_opening area bytes ≡ Ok k
-    → by_rules (whole_of area bytes) ≡ run (length (drop 16 bytes) / 16) (fresh k) (all_asked (drop 16 bytes))
+    → IsRun (whole_of area bytes) (run (length (drop 16 bytes) / 16) (fresh k) (all_asked (drop 16 bytes)))
 
 -- a run leaves the state after the actions of the records that it counts, refused or not
 abbrev pub RunLeavesItsActions : Type 0

@@ -9,12 +9,12 @@ ghost use Rattle.runs.specs.Theorems.{
 };
 
 /// A run that is not refused before its first record is the run of the rules: as many actions, the same total, the same last answer and
-/// the same state.
+/// the same state. What it leaves is in shape.
 pub fn run_is_the_rules_run()
     ensures { RunIsTheRulesRun }
 {}
 
-/// A whole sequence whose opening is accepted is the run of the rules from the fresh floor with its settings.
+/// A whole sequence whose opening is accepted is the run of the rules from the fresh floor with its settings. What it leaves is in shape.
 pub fn whole_is_the_rules_run()
     ensures { WholeIsTheRulesRun }
 {}
