@@ -24,10 +24,12 @@ fn answer<W: Write, T: Drop>(to: &mut W, name: &str, answer: Result<T, Refusal>)
 
 /// Gives the record back: what was written reads back.
 fn record_calls<W: Write>(to: &mut W, bytes: &[u8]) -> io::Result<Record> {
-    let (number, record) = match Record::read(bytes) {
-        Ok(record) => (0, record),
-        Err(refusal) => (refusal.number(), Record::ZEROS),
+    let reading = Record::read(bytes);
+    let number = match &reading {
+        Ok(_) => 0,
+        Err(refusal) => refusal.number(),
     };
+    let record = Record::given(reading);
     line(to, "read", number)?;
     line(to, "well formed", u8::from(record.well_formed()))?;
     let mut place = [0; 16];
@@ -79,7 +81,6 @@ fn whole_calls<W: Write>(to: &mut W, area: &mut [u64], sequence: &[u8]) -> io::R
     line(to, "whole with a hold", taken.count)
 }
 
-/// `read_row` makes a reader and takes its next row.
 fn table_calls<W: Write>(to: &mut W, sequence: &[u8]) -> io::Result<()> {
     let mut text = [0; 4096];
     let length = tables::write(sequence, &mut text).unwrap_or(0);
@@ -92,7 +93,7 @@ fn table_calls<W: Write>(to: &mut W, sequence: &[u8]) -> io::Result<()> {
 
 fn main(rt: HostRuntime) -> io::Result<()> {
     let input = read_input(rt.alloc(), rt.stdin(), 4096)?;
-    let mut area = vec![in rt.alloc(); 0; Settings::MOST_NOTES]?;
+    let mut area = [0; Settings::MOST_NOTES];
     let to = &mut rt.stdout();
     // Two records, of zeros where the input has none.
     let mut head = [0; 2 * Record::LENGTH];

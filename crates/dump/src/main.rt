@@ -7,12 +7,13 @@ pub mod acting;
 
 use crate::acting::acts;
 use floors::Floor;
+use inputs::blocks::BlockWriter;
 use inputs::read_input;
 use reports::floor_lines::FloorLines;
 use reports::input::{MOST_BYTES, run_input};
 use rules::Settings;
 use std::io;
-use std::io::{BufWriter, Write};
+use std::io::Write;
 
 fn notes<W: Write>(to: &mut W, waiting: &[u64]) -> io::Result<()> {
     for &note in waiting {
@@ -50,10 +51,10 @@ fn sent<W: Write>(to: &mut W, floor: &Floor) -> io::Result<()> {
 fn main(rt: HostRuntime) -> io::Result<()> {
     // One byte more than an input may have, so that a longer one is seen.
     let input = read_input(rt.alloc(), rt.stdin(), MOST_BYTES + 1)?;
-    let mut area = vec![in rt.alloc(); 0; Settings::MOST_NOTES]?;
+    let mut area = [0; Settings::MOST_NOTES];
     let mut floor = Floor::none();
     let ran = run_input(&mut floor, &mut area, &input);
-    let mut to = BufWriter::new(rt.alloc(), rt.stdout())?;
+    let mut to = BlockWriter::new(rt.stdout());
     let lines = FloorLines {
         count: ran.count,
         refusal: ran.refusal,

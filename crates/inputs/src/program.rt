@@ -1,10 +1,9 @@
 //! What the programs have in common: each reads its whole input, and then writes a reply to it.
-ghost use Rattle.std.specs.Prelude.{◌≡◌, List, ℕ, take, string_bytes, IfOk, IfSome, OnOk};
+ghost use Rattle.std.specs.Prelude.{◌≡◌, List, ℕ, take, IfSome, OnOk};
 ghost use Rattle.std.specs.Io.KnownBytes.{Appends};
 
 use crate::read_input;
-use crate::reply::Reply;
-use std::alloc::{AllocError, Global};
+use std::alloc::Global;
 use std::io;
 use std::io::{Read, Write};
 
@@ -26,9 +25,10 @@ pub trait Program {
     /// One byte more than an input may have, so that a longer one is seen.
     const MOST_READ: usize;
 
-    fn reply(alloc: Global, input: &[u8]) -> Result<Reply, AllocError>
-        ensures output { IfOk result (λ reply. reply.output.items ≡ output input.now) }
-        ensures line { IfOk result (λ reply. string_bytes reply.line ≡ line input.now) };
+    /// Writes the reply to an input.
+    fn reply<W: Write, E: Write>(input: &[u8], to: &mut W, errors: &mut E) -> io::Result<()>
+        ensures output { OnOk result (Appends (W.contents to.old) (W.contents to.new) (output input.now)) }
+        ensures line { OnOk result (Appends (E.contents errors.old) (E.contents errors.new) (line input.now)) };
 }
 
 /// From all that is read to all that is written.
@@ -42,6 +42,5 @@ pub fn run<P: Program, R: Read + Drop, W: Write, E: Write>(
     ensures line { OnOk result (IfSome (R.remaining from) (λ input. Appends (E.contents errors.old) (E.contents errors.new) (P.line input))) }
 {
     let input = read_input(alloc, from, P::MOST_READ)?;
-    let reply = P::reply(alloc, &input)?;
-    reply.write(to, errors)
+    P::reply(&input, to, errors)
 }

@@ -1,6 +1,6 @@
 -- Laws of what a program makes of its input.
-use Rattle.std.proofs.Common.{◌≡◌, refl, ap, Bool, true, false, ℕ, ◌+◌, List, length, take, min, ltb, arith, length-take, ltb-true, ltb-false, lt-ltb, ◌++◌, ◌∙◌}
-use Rattle.std.proofs.lemmas.List.{take_all, take-append-le}
+use Rattle.std.proofs.Common.{◌≡◌, refl, ap, Bool, true, false, ℕ, ◌+◌, List, length, take, min, ltb, arith, length-take, ltb-true, ltb-false, lt-ltb}
+use Rattle.std.proofs.lemmas.List.{take_all}
 use Rattle.reports.specs.Input.{of_input}
 
 cut : {A : Type 0} (most : ℕ) (xs : List ℕ) (refused : A) (f : List ℕ → A) (long : Bool) → ltb most (length xs) ≡ long
@@ -18,10 +18,3 @@ cut most xs refused f false e =
 pub of_input-take : {A : Type 0} (most : ℕ) (xs : List ℕ) (refused : A) (f : List ℕ → A)
     → of_input most (take (most + 1) xs) refused (f (take (most + 1) xs)) ≡ of_input most xs refused (f xs)
 of_input-take most xs refused f = cut most xs refused f (ltb most (length xs)) refl
-
--- a place that is lent whole comes back whole
-pub lent_back : (len : ℕ) (place rest : List ℕ) → length place ≡ len → take len (place ++ rest) ≡ place
-lent_back len place rest e = take-append-le len place rest (omega arith) ∙ take_all len place (omega arith)
-
-pub written_back : (long len : ℕ) (place rest : List ℕ) → length place ≡ len → take long (take len (place ++ rest)) ≡ take long place
-written_back long len place rest e = ap (take long) (lent_back len place rest e)

@@ -1,5 +1,5 @@
 -- How long the lines are at most.
-use Rattle.std.proofs.Common.{◌≡◌, sym, ◌∙◌, ◌⊎◌, inl, inr, Bool, true, false, not, cond, ltb, IsTrue, ℕ, zero, suc, ◌+◌, ◌*◌, ◌^◌, ◌<◌, ◌≤◌, min, List, [], length, Option, Some, None, Result, Ok, Err, IfOk, arith}
+use Rattle.std.proofs.Common.{◌≡◌, sym, ◌∙◌, ◌⊎◌, inl, inr, Bool, true, false, not, cond, ltb, IsTrue, ℕ, zero, suc, ◌+◌, ◌*◌, ◌^◌, ◌<◌, ◌≤◌, min, List, [], length, Option, Some, None, arith}
 use Rattle.std.specs.Prelude.{codes, decimal, if◌then◌else◌, ◌==◌, slice_index_or}
 use Rattle.std.proofs.lemmas.Fmt.{length-decimal-le}
 use Rattle.std.proofs.lemmas.List.{length-append}
@@ -135,12 +135,6 @@ shape_timers fl area h k l =
     let s = shape (state_of fl area) (in_shape_state fl area h) in
     place_timers fl.settings (slice_index_or fl.desks k no_desk) (ltb k fl.settings.desks) ready.pass_on ready.accept (s.desks k l)
 
-pub left_heading_most : (count answer : ℕ) (fl : Floor) (area : List ℕ) → count < 2 ^ 64 → answer < 2 ^ 64 → (fl ≡ no_floor) ⊎ IsTrue (in_shape fl area)
-    → length (heading_text count answer fl) ≤ 109
-left_heading_most count answer fl area c a (inl none) = rw none (heading_text_most count answer no_floor c a (omega arith) (omega arith))
-left_heading_most count answer fl area c a (inr h) =
-    heading_text_most count answer fl c a (omega (arith, (in_shape_ready fl area h).clock)) (omega (arith, in_shape_waiting fl area h))
-
 pub left_outcome_most : (count answer : ℕ) (fl : Floor) (area : List ℕ) → count < 2 ^ 64 → answer < 2 ^ 64 → (fl ≡ no_floor) ⊎ IsTrue (in_shape fl area)
     → length (outcome_text count answer fl) ≤ 22813
 unfolding outcome_text
@@ -148,9 +142,3 @@ left_outcome_most count answer fl area c a (inl none) =
     rw (none, length-append (heading_text count answer no_floor) []) (omega (arith, heading_text_most count answer no_floor c a (omega arith) (omega arith)))
 left_outcome_most count answer fl area c a (inr h) =
     outcome_text_most count answer fl c a (omega (arith, (in_shape_ready fl area h).clock)) (omega (arith, in_shape_waiting fl area h)) (shape_timers fl area h)
-
--- what was written is as short as its bytes are said to be
-pub short_of : {A E : Type 0} (r : Result A E) (bytes : A → List ℕ) (text : List ℕ) (most : ℕ) → IfOk r (λ x. bytes x ≡ text) → length text ≤ most
-    → IfOk r (λ x. length (bytes x) ≤ most)
-short_of (Ok x) bytes text most is h = rw is h
-short_of (Err e) bytes text most is h = tt

@@ -1,3 +1,4 @@
 mod LineLaws
 pub mod InputLaws
 pub mod LengthLaws
+pub mod OneResult
