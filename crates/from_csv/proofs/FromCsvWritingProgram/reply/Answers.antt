@@ -2,7 +2,7 @@ use Rattle.std.proofs.Common.{rules, ◌≡◌, sym, [], take, replicate}
 use Rattle.from_csv.specs.Text.{refusal_text}
 use Rattle.from_csv.specs.Written.{records_of, line_of}
 use Rattle.from_csv.proofs.WrittenLaws.{records_told, no_line_told, no_records_told, line_told}
-use Rattle.from_csv.proofs.FromCsvProgram.reply.Goals as goal
+use Rattle.from_csv.proofs.FromCsvWritingProgram.reply.Goals as goal
 
 pub returns-in-Ok-clause-output : goal.returns-in-Ok-clause-output
 returns-in-Ok-clause-output g c =

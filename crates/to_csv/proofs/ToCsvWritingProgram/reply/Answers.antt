@@ -2,7 +2,7 @@ use Rattle.std.proofs.Common.{rules, ◌≡◌, sym, [], take, replicate}
 use Rattle.to_csv.specs.Text.{refusal_text}
 use Rattle.to_csv.specs.Written.{rows_of, line_of}
 use Rattle.to_csv.proofs.WrittenLaws.{rows_told, no_line_told, no_rows_told, line_told}
-use Rattle.to_csv.proofs.ToCsvProgram.reply.Goals as goal
+use Rattle.to_csv.proofs.ToCsvWritingProgram.reply.Goals as goal
 
 pub returns-in-Ok-clause-output : goal.returns-in-Ok-clause-output
 returns-in-Ok-clause-output g c =
