@@ -10,10 +10,13 @@ use Rattle.rules.specs.Rules.{last_number}
 use Rattle.reports.specs.Lines.{outcome_text}
 use Rattle.floor.specs.Printed.{printed}
 
+pub printed_of : (area input : List ℕ) (ran : Ran) (fl : Floor) → area ≡ replicate MOST_NOTES 0 → ran ≡ (input_went area input).ran → fl ≡ (input_went area input).floor
+    → printed input ≡ outcome_text ran.count (last_number ran.refusal) fl
+unfolding printed
+printed_of area input ran fl e r f = rw (r, f, e) refl
+
 -- what is printed fits its place
 pub printed_most : (area input : List ℕ) (ran : Ran) (fl : Floor) (after : List ℕ) → area ≡ replicate MOST_NOTES 0 → ran ≡ (input_went area input).ran → fl ≡ (input_went area input).floor
     → ran.count < 2 ^ 64 → (fl ≡ no_floor) ⊎ IsTrue (in_shape fl after) → length (printed input) ≤ 22813
-unfolding printed
 printed_most area input ran fl after e r f c shape =
-    let told : printed input ≡ outcome_text ran.count (last_number ran.refusal) fl = rw (r, f, e) refl in
-    rw told (left_outcome_most ran.count (last_number ran.refusal) fl after c (last_number_most ran.refusal) shape)
+    rw (printed_of area input ran fl e r f) (left_outcome_most ran.count (last_number ran.refusal) fl after c (last_number_most ran.refusal) shape)

@@ -11,7 +11,7 @@ use Rattle.reports.proofs.LengthLaws.{last_number_most}
 use Rattle.hold.proofs.InputLaws.{Left}
 use Rattle.hold.proofs.LengthLaws.{hold_text_most, left_numbers}
 
-printed_of : (area after input : List ℕ) (taken : Taken) (h : Hold) → area ≡ replicate MOST_NOTES 0
+pub printed_of : (area after input : List ℕ) (taken : Taken) (h : Hold) → area ≡ replicate MOST_NOTES 0
     → taken ≡ (input_taken area input).taken → h ≡ (input_taken area input).left.hold → after ≡ (input_taken area input).left.area
     → printed input ≡ hold_text taken.count (last_number taken.refusal) h after
 unfolding printed

@@ -135,6 +135,12 @@ shape_timers fl area h k l =
     let s = shape (state_of fl area) (in_shape_state fl area h) in
     place_timers fl.settings (slice_index_or fl.desks k no_desk) (ltb k fl.settings.desks) ready.pass_on ready.accept (s.desks k l)
 
+pub left_heading_most : (count answer : ℕ) (fl : Floor) (area : List ℕ) → count < 2 ^ 64 → answer < 2 ^ 64 → (fl ≡ no_floor) ⊎ IsTrue (in_shape fl area)
+    → length (heading_text count answer fl) ≤ 109
+left_heading_most count answer fl area c a (inl none) = rw none (heading_text_most count answer no_floor c a (omega arith) (omega arith))
+left_heading_most count answer fl area c a (inr h) =
+    heading_text_most count answer fl c a (omega (arith, (in_shape_ready fl area h).clock)) (omega (arith, in_shape_waiting fl area h))
+
 pub left_outcome_most : (count answer : ℕ) (fl : Floor) (area : List ℕ) → count < 2 ^ 64 → answer < 2 ^ 64 → (fl ≡ no_floor) ⊎ IsTrue (in_shape fl area)
     → length (outcome_text count answer fl) ≤ 22813
 unfolding outcome_text
