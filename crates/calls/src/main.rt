@@ -2,14 +2,11 @@
 //! program's code how much stack the calls take.
 #![tactic(auto)]
 
-ghost use Rattle.std.specs.Prelude.{◌≤◌, length};
-
 use floors::Floor;
 use holds::Hold;
 use inputs::read_input;
 use records::Record;
 use rules::{Refusal, Settings, last_number};
-use sets::EntryNo;
 use std::fmt::Display;
 use std::io;
 use std::io::Write;
